@@ -1,0 +1,23 @@
+-- The outside in memory: what stands there, and which calls fail.
+use Rattle.std.specs.Prelude.{◌≡◌, ℕ, ◌+◌, ◌-◌, ◌^◌, min, List, Contains}
+
+-- the bytes that a source has left, a sink was given or a disk holds; the numbers of the calls that
+-- fail, counted from 1; how many calls there were, and how many of them failed
+pub record MemoryState : Type 0 where
+  pub bytes : List ℕ
+  pub fails : List ℕ
+  pub calls : ℕ
+  pub faults : ℕ
+
+-- no call was made yet
+abbrev pub fresh : List ℕ → List ℕ → MemoryState
+fresh bytes fails = record { bytes = bytes; fails = fails; calls = 0; faults = 0 }
+
+-- the next call is one of those that fail
+abbrev pub IsNextNamed : MemoryState → Type 0
+IsNextNamed state = Contains state.fails (state.calls + 1)
+
+-- one call more, and the same calls that fail
+pub record CountsCall (old new : MemoryState) : Type 0 where
+  pub same_fails : new.fails ≡ old.fails
+  pub one_more : new.calls ≡ min (old.calls + 1) (2 ^ 64 - 1)

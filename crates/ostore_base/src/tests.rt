@@ -1,0 +1,163 @@
+use super::*;
+use std::io;
+use std::io::{ErrorKind, Read, Write};
+use std::test::Fail;
+
+/// A reader and writer whose calls fail.
+#[derive(Drop)]
+struct Broken;
+
+impl Read for Broken {
+    fn read(&mut self, _into: &mut [u8]) -> io::Result<usize> {
+        Err(io::Error::from(ErrorKind::Other))
+    }
+}
+
+impl Write for Broken {
+    fn write(&mut self, _bytes: &[u8]) -> io::Result<usize> {
+        Err(io::Error::from(ErrorKind::Other))
+    }
+
+    fn flush(&mut self) -> io::Result<()> {
+        Ok(())
+    }
+}
+
+/// An image whose bytes are all the same.
+fn filled(byte: u8) -> PageImage {
+    PageImage {
+        bytes: [byte; PAGE_SIZE],
+    }
+}
+
+/// A read, through the trait.
+fn read_four<S: Source>(source: &mut S, into: &mut [u8; 4]) -> Result<usize, Failed> {
+    source.read(into)
+}
+
+/// A write, through the trait.
+fn write_piece<K: Sink>(sink: &mut K, piece: &[u8]) -> Result<usize, Failed> {
+    sink.write(piece)
+}
+
+#[test]
+fn pages_are_pushed_set_and_copied(rt: HostRuntime) -> Result<(), Fail> {
+    let mut pages = PageList::new(rt.alloc());
+    assert!(rt; pages.is_empty());
+    pages.push(&PageImage::zeroed())?;
+    pages.push(&filled(1))?;
+    let before = pages.copy()?;
+    pages.set(PageNo(0), &filled(2));
+    assert_eq!(rt; pages.len(), 2);
+    assert_eq!(rt; pages.page(PageNo(0)).bytes[4095], 2);
+    assert_eq!(rt; pages.page(PageNo(1)).bytes[0], 1);
+    assert_eq!(rt; before.len(), 2);
+    assert!(rt; *before.page(PageNo(0)) == PageImage::zeroed());
+    Ok(())
+}
+
+#[test]
+fn a_source_fails_at_the_named_call(rt: HostRuntime) -> Result<(), Fail> {
+    let alloc = rt.alloc();
+    let mut source = MemSource::new([1, 2, 3, 4, 5].to_vec(alloc)?, [2].to_vec(alloc)?);
+    let mut into = [0; 4];
+    for want in [Ok(4), Err(Failed), Ok(1), Ok(0)] {
+        assert_eq!(rt; read_four(&mut source, &mut into), want);
+    }
+    assert_eq!(rt; into, [5, 2, 3, 4]);
+    assert_eq!(rt; source.calls(), 4);
+    assert_eq!(rt; source.faults(), 1);
+    Ok(())
+}
+
+#[test]
+fn a_sink_fails_at_the_named_calls(rt: HostRuntime) -> Result<(), Fail> {
+    let alloc = rt.alloc();
+    let mut sink = MemSink::new(alloc, [1, 3].to_vec(alloc)?);
+    for want in [Err(Failed), Ok(2), Err(Failed), Ok(2)] {
+        assert_eq!(rt; write_piece(&mut sink, &[7, 8]), want);
+    }
+    assert_eq!(rt; sink.bytes(), [7, 8, 7, 8].as_slice());
+    assert_eq!(rt; sink.calls(), 4);
+    assert_eq!(rt; sink.faults(), 2);
+    Ok(())
+}
+
+#[test]
+fn a_disk_is_written_over_and_past_its_end(rt: HostRuntime) -> Result<(), Fail> {
+    let alloc = rt.alloc();
+    let mut disk = MemDisk::new([1, 2, 3].to_vec(alloc)?, [3].to_vec(alloc)?);
+    assert_eq!(rt; disk.length(), Ok(3));
+    assert_eq!(rt; disk.write(2, &[7, 8, 9]), Ok(()));
+    assert_eq!(rt; disk.write(0, &[5, 5]), Err(Failed));
+    assert_eq!(rt; disk.write(0, &[6]), Ok(()));
+    assert_eq!(rt; disk.sync(), Ok(()));
+    assert_eq!(rt; disk.bytes(), [6, 2, 7, 8, 9].as_slice());
+    assert_eq!(rt; disk.faults(), 1);
+    Ok(())
+}
+
+#[test]
+fn a_disk_is_read(rt: HostRuntime) -> Result<(), Fail> {
+    let alloc = rt.alloc();
+    let mut disk = MemDisk::new([1, 2, 3].to_vec(alloc)?, [2].to_vec(alloc)?);
+    let mut into = [0; 2];
+    for want in [Ok(()), Err(Failed)] {
+        if disk.bytes().len() == 3 {
+            assert_eq!(rt; disk.read(1, &mut into), want);
+        }
+    }
+    assert_eq!(rt; into, [2, 3]);
+    assert_eq!(rt; disk.calls(), 2);
+    Ok(())
+}
+
+#[test]
+fn a_reader_is_a_source(rt: HostRuntime) {
+    let bytes = [1u8, 2, 3, 4, 5];
+    let mut source = StdSource::new(bytes.as_slice());
+    let mut into = [0; 4];
+    for want in [Ok(4), Ok(1), Ok(0)] {
+        assert_eq!(rt; read_four(&mut source, &mut into), want);
+    }
+    assert_eq!(rt; into, [5, 2, 3, 4]);
+    assert_eq!(rt; source.faults(), 0);
+    let mut broken = StdSource::new(Broken);
+    assert_eq!(rt; read_four(&mut broken, &mut into), Err(Failed));
+    assert_eq!(rt; broken.faults(), 1);
+}
+
+#[test]
+fn a_writer_is_a_sink(rt: HostRuntime) {
+    let mut held = [0u8; 3];
+    let mut sink = StdSink::new(held.as_mut_slice());
+    // A writer that is full takes nothing.
+    for want in [Ok(2), Ok(1), Err(Failed)] {
+        assert_eq!(rt; write_piece(&mut sink, &[1, 2]), want);
+    }
+    assert_eq!(rt; write_piece(&mut sink, &[]), Ok(0));
+    assert_eq!(rt; sink.faults(), 1);
+    drop(sink);
+    assert_eq!(rt; held, [1, 2, 1]);
+    let mut broken = StdSink::new(Broken);
+    assert_eq!(rt; write_piece(&mut broken, &[1]), Err(Failed));
+    assert_eq!(rt; broken.faults(), 1);
+}
+
+#[test]
+fn a_file_is_a_disk(rt: HostRuntime) -> Result<(), Fail> {
+    assert!(rt; FileDisk::open(&rt, "missing/disk").is_err());
+    let mut disk = FileDisk::open(&rt, "disk")?;
+    assert_eq!(rt; disk.length(), Ok(0));
+    assert_eq!(rt; disk.write(0, b"pages"), Ok(()));
+    assert_eq!(rt; disk.write(4, b"r!"), Ok(()));
+    assert_eq!(rt; disk.sync(), Ok(()));
+    assert_eq!(rt; disk.length(), Ok(6));
+    let mut into = [0; 4];
+    assert_eq!(rt; disk.read(2, &mut into), Ok(()));
+    assert_eq!(rt; into, *b"ger!");
+    assert_eq!(rt; disk.read(4, &mut into), Err(Failed));
+    assert_eq!(rt; disk.write(LONGEST_DISK, b"!"), Err(Failed));
+    assert_eq!(rt; disk.faults(), 2);
+    Ok(())
+}
