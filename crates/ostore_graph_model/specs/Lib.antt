@@ -1,0 +1,5 @@
+pub mod Orders
+pub mod Graph
+pub mod Step
+pub mod Transaction
+pub mod History

@@ -1,0 +1,57 @@
+-- The orders under which the parts of a graph are kept as finite maps and sets.
+use Rattle.std.specs.Prelude.{ℕ, List}
+use Rattle.std.specs.declared.cmp.Ordering.{Ordering}
+use Rattle.std.specs.declared.cmp.Ordering.TheVariants.{Less, Greater}
+use Rattle.std.specs.Ordering.{nat_cmp, int_cmp, ordering_then}
+use Rattle.std.specs.Cmp.Lexicographic.{slice_cmp}
+use Rattle.ostore_graph_model.specs.declared.values.Name.{Name}
+use Rattle.ostore_graph_model.specs.declared.commands.Key.{Key}
+use Rattle.ostore_graph_model.specs.declared.commands.Key.TheVariants as keys
+
+-- texts by their bytes
+abbrev pub text_cmp : List ℕ → List ℕ → Ordering
+text_cmp = slice_cmp nat_cmp
+
+-- names by segment, then by serial
+abbrev pub name_cmp : Name → Name → Ordering
+name_cmp a b = ordering_then (nat_cmp a.segment b.segment) (nat_cmp a.serial b.serial)
+
+-- whole numbers before texts
+abbrev pub key_cmp : Key → Key → Ordering
+key_cmp (keys.Int a) (keys.Int b) = int_cmp a b
+key_cmp (keys.Int a) (keys.Text b) = Less
+key_cmp (keys.Text a) (keys.Int b) = Greater
+key_cmp (keys.Text a) (keys.Text b) = text_cmp a b
+
+-- a member of a type: the type's number, from 1, and the member's place in it, from 0
+pub record Side : Type 0 where
+  pub ty : ℕ
+  pub member : ℕ
+
+abbrev pub side_cmp : Side → Side → Ordering
+side_cmp a b = ordering_then (nat_cmp a.ty b.ty) (nat_cmp a.member b.member)
+
+-- two objects that a link joins; the link goes by its first side, or its only one
+pub record Pair : Type 0 where
+  pub link : Side
+  pub first : Name
+  pub second : Name
+
+abbrev pub pair_cmp : Pair → Pair → Ordering
+pair_cmp a b = ordering_then (side_cmp a.link b.link) (ordering_then (name_cmp a.first b.first) (name_cmp a.second b.second))
+
+-- a member of one object
+pub record Place : Type 0 where
+  pub object : Name
+  pub member : ℕ
+
+abbrev pub place_cmp : Place → Place → Ordering
+place_cmp a b = ordering_then (name_cmp a.object b.object) (nat_cmp a.member b.member)
+
+-- a declared index: the set that it is on, and the members of its path
+pub record PathIndex : Type 0 where
+  pub set : Place
+  pub path : List ℕ
+
+abbrev pub index_cmp : PathIndex → PathIndex → Ordering
+index_cmp a b = ordering_then (place_cmp a.set b.set) (slice_cmp nat_cmp a.path b.path)

@@ -1,0 +1,11 @@
+//! The plain graph database that the object database stands for: its commands, replies and
+//! transactions as types, and in specs/ what each of them means.
+#![tactic(auto)]
+
+mod commands;
+mod history;
+mod values;
+
+pub use commands::{Command, Commands, Idents, Key, Op, Operand, Script, Txn, TxnLists, Txns};
+pub use history::{Committed, Entry};
+pub use values::{Listed, Name, Names, Refusal, Replies, Reply, Value};
