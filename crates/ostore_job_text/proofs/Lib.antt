@@ -1,0 +1,8 @@
+pub mod WordLaws
+pub mod WordReaders
+pub mod GrammarSteps
+pub mod GrammarCommands
+pub mod GrammarJobs
+pub mod GrammarSchema
+pub mod GrammarInput
+pub mod GrammarLoops

@@ -1,0 +1,200 @@
+-- Reading what `try` reads: a second function on the words of each line, which gives the input that
+-- they spell, or nothing. The code is tied to it, and laws tie it to the grammar.
+use Rattle.std.specs.Prelude.{◌≡◌, ◌<◌, ◌≤◌, ℕ, Bool, true, false, ◌&&◌, not, List, [], ◌∷◌, length, map, drop, Option, Some, None, Result, Ok, Err, codes, nat_le, if◌then◌else◌}
+use Rattle.std.specs.Borrow.{Bor}
+use Rattle.std.specs.Global.{Vec}
+use Rattle.std.specs.Str.{bytes_eq}
+use Rattle.ostore_schema_layout.specs.declared.schema.Schema.{Schema}
+use Rattle.ostore_schema_layout.specs.declared.schema.MemberDef.{MemberDef}
+use Rattle.ostore_schema_layout.specs.declared.schema.MemberKind.TheVariants as kinds
+use Rattle.ostore_graph_model.specs.declared.commands.Command.{Command}
+use Rattle.ostore_graph_model.specs.declared.commands.Command.TheVariants.{New, Get, Set}
+use Rattle.ostore_graph_model.specs.declared.commands.Operand.TheVariants as operands
+use Rattle.ostore_graph_model.specs.declared.commands.Txn.{Txn}
+use Rattle.ostore_job_text.specs.declared.job.Job.{Job}
+use Rattle.ostore_job_text.specs.declared.job.JobClient.{JobClient}
+use Rattle.ostore_job_text.specs.declared.job.TheConstants.{DEFAULT_TRIES, DEFAULT_CACHE, DEFAULT_FRAMES}
+use Rattle.ostore_job_text.specs.declared.input.TryInput.{TryInput}
+use Rattle.ostore_job_text.specs.Words.{is_identifier}
+use Rattle.ostore_job_text.specs.declared.reading.fault.ReadFault.{ReadFault}
+use Rattle.ostore_job_text.specs.declared.reading.fault.ReadFault.TheVariants as faults
+use Rattle.ostore_job_text.specs.WordReading.{◌>>=◌, variable_at, place_at, int_at, segment_at}
+
+-- What a function gave, seen by view, is what reading gives, unless memory ran out.
+abbrev pub Fails : {Y : Type 0} → ReadFault → Option Y → Type 0
+Fails faults.OutOfMemory read = Unit {0}
+Fails faults.Refused read = read ≡ None
+
+abbrev pub Gives : {X Y : Type 0} → (X → Y) → Result X ReadFault → Option Y → Type 0
+Gives view (Ok x) read = read ≡ Some (view x)
+Gives view (Err fault) read = Fails fault read
+
+-- words, and lines of words, as they lie in memory
+abbrev pub seen_words : List (Bor (List ℕ)) → List (List ℕ)
+seen_words words = map (λ word. word.now) words
+
+abbrev pub seen_lines : List (Vec (Bor (List ℕ))) → List (List (List ℕ))
+seen_lines lines = map (λ line. map (λ word. word.now) line.items) lines
+
+-- the value where the test holds
+abbrev pub checked : {A : Type 0} → Bool → Option A → Option A
+checked test value = if test then value else None
+
+-- ---- commands
+
+unfoldable pub new_at : List ℕ → List ℕ → List ℕ → Option Command
+new_at to ty segment = do
+  name ← variable_at to
+  number ← segment_at segment
+  checked (is_identifier ty) (Some (New name ty number))
+
+unfoldable pub get_at : List ℕ → Option Command
+get_at place = do
+  at ← place_at place
+  Some (Get at.0 at.1)
+
+unfoldable pub set_at : List ℕ → List ℕ → Option Command
+set_at place value = do
+  at ← place_at place
+  number ← int_at value
+  Some (Set at.0 at.1 (operands.Int number))
+
+-- the command that a line's words spell
+unfoldable pub command_at : List (List ℕ) → Option Command
+command_at [] = None
+command_at (verb ∷ []) = None
+command_at (verb ∷ place ∷ []) = checked (bytes_eq verb (codes "get")) (get_at place)
+command_at (verb ∷ place ∷ value ∷ []) = checked (bytes_eq verb (codes "set")) (set_at place value)
+command_at (verb ∷ to ∷ ty ∷ segment ∷ []) = checked (bytes_eq verb (codes "new")) (new_at to ty segment)
+command_at (verb ∷ a ∷ b ∷ c ∷ d ∷ others) = None
+
+-- ---- transactions
+
+-- the line is this word alone
+abbrev pub is_only : List ℕ → List (List ℕ) → Bool
+is_only word [] = false
+is_only word (found ∷ []) = bytes_eq found word
+is_only word (first ∷ second ∷ others) = false
+
+abbrev pub update_of : List Command → Txn
+update_of commands = record { update = true; commands = commands; aborts = false }
+
+-- The transactions that lines to the end of the text spell. Inside a transaction, the commands up to
+-- its end stand apart.
+unfoldable pub txns_at : List (List (List ℕ)) → Bool → Option (List Command × List Txn)
+txns_at [] false = Some ([], [])
+txns_at [] true = None
+txns_at (line ∷ lines) false = checked (is_only (codes "begin") line) (do
+  others ← txns_at lines true
+  Some ([], update_of others.0 ∷ others.1))
+txns_at (line ∷ lines) true =
+    if is_only (codes "commit") line then (do
+      others ← txns_at lines false
+      Some ([], others.1))
+    else (do
+      command ← command_at line
+      others ← txns_at lines true
+      Some (command ∷ others.0, others.1))
+
+-- commands that stand before the end of a transaction, and what the lines after it spell
+abbrev pub after_commands : List Command → Option (List Command × List Txn) → Option (List Command × List Txn)
+after_commands commands later = later >>= λ others. Some (commands, others.1)
+
+-- The commands of a transaction, and how many lines they are with its last line, are what reading gives.
+abbrev pub GivesCommands : List (Vec (Bor (List ℕ))) → Result (List Command × ℕ) ReadFault → Type 0
+GivesCommands lines (Ok found) =
+    (txns_at (seen_lines lines) true ≡ after_commands found.0 (txns_at (seen_lines (drop found.1 lines)) false))
+    × (found.1 ≤ length lines)
+GivesCommands lines (Err fault) = Fails fault (txns_at (seen_lines lines) true)
+
+-- the same of a whole transaction that stands before others
+abbrev pub before_txns : Txn → Option (List Command × List Txn) → Option (List Command × List Txn)
+before_txns txn later = later >>= λ others. Some ([], txn ∷ others.1)
+
+abbrev pub GivesTxn : List (Vec (Bor (List ℕ))) → Result (Txn × ℕ) ReadFault → Type 0
+GivesTxn lines (Ok found) =
+    (txns_at (seen_lines lines) false ≡ before_txns found.0 (txns_at (seen_lines (drop found.1 lines)) false))
+    × (0 < found.1) × (found.1 ≤ length lines)
+GivesTxn lines (Err fault) = Fails fault (txns_at (seen_lines lines) false)
+
+-- ---- the job
+
+-- the name after this word, in a line of two words
+abbrev pub named_at : List ℕ → List (List ℕ) → Option (List ℕ)
+named_at word [] = None
+named_at word (first ∷ []) = None
+named_at word (first ∷ name ∷ []) = checked (bytes_eq first word && is_identifier name) (Some name)
+named_at word (first ∷ second ∷ third ∷ others) = None
+
+abbrev pub client_of : List ℕ → List Txn → JobClient
+client_of name txns = record { name = name; tries = DEFAULT_TRIES; cache = DEFAULT_CACHE; frames = DEFAULT_FRAMES; txns = txns }
+
+-- the client that its line and its transactions' lines spell
+unfoldable pub client_at : List (List ℕ) → List (List (List ℕ)) → Option JobClient
+client_at line lines = do
+  name ← named_at (codes "client") line
+  found ← txns_at lines false
+  Some (client_of name found.1)
+
+-- no line is the empty job, and one client has all of the lines
+unfoldable pub job_at : List (List (List ℕ)) → Option Job
+job_at [] = Some (record { clients = []; turns = [] })
+job_at (line ∷ lines) = do
+  client ← client_at line lines
+  Some (record { clients = client ∷ []; turns = [] })
+
+-- ---- the schema
+
+abbrev pub int_member : List ℕ → MemberDef
+int_member name = record { name = name; kind = kinds.Int; inverse = None }
+
+-- the int member that a line's words spell
+unfoldable pub member_at : List (List ℕ) → Option MemberDef
+member_at [] = None
+member_at (name ∷ []) = None
+member_at (name ∷ kind ∷ []) = checked (is_identifier name && bytes_eq kind (codes "int")) (Some (int_member name))
+member_at (first ∷ second ∷ third ∷ others) = None
+
+unfoldable pub members_at : List (List (List ℕ)) → Option (List MemberDef)
+members_at [] = Some []
+members_at (line ∷ lines) = do
+  member ← member_at line
+  members ← members_at lines
+  Some (member ∷ members)
+
+-- none of the members has this name
+abbrev pub names_none : List ℕ → List MemberDef → Bool
+names_none name [] = true
+names_none name (member ∷ members) = not (bytes_eq name member.name) && names_none name members
+
+-- no two of the members have one name
+abbrev pub have_own_names : List MemberDef → Bool
+have_own_names [] = true
+have_own_names (member ∷ members) = names_none member.name members && have_own_names members
+
+-- one type with at most 32 members
+unfoldable pub schema_at : List (List (List ℕ)) → Option Schema
+schema_at [] = None
+schema_at (line ∷ lines) = do
+  name ← named_at (codes "type") line
+  members ← members_at lines
+  checked (nat_le (length members) 32 && have_own_names members) (Some (record { types = record { name = name; members = members } ∷ [] }))
+
+-- ---- the whole text
+
+-- the lines before the first line `job`
+unfoldable pub schema_part : List (List (List ℕ)) → List (List (List ℕ))
+schema_part [] = []
+schema_part (line ∷ lines) = if is_only (codes "job") line then [] else line ∷ schema_part lines
+
+-- the lines after it
+unfoldable pub job_part : List (List (List ℕ)) → List (List (List ℕ))
+job_part [] = []
+job_part (line ∷ lines) = if is_only (codes "job") line then lines else job_part lines
+
+-- the input that the lines spell
+unfoldable pub input_at : List (List (List ℕ)) → Option TryInput
+input_at lines = do
+  schema ← schema_at (schema_part lines)
+  job ← job_at (job_part lines)
+  Some (record { schema = schema; job = job })

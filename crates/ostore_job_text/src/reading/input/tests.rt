@@ -1,0 +1,126 @@
+//! Texts that are read, and texts that are refused.
+
+use super::*;
+use ostore_graph_model::{Command, Operand};
+use std::fmt::Write;
+use std::test::Fail;
+
+const WHOLE: &[u8] =
+    b"type Part\nid int\njob\nclient a\nbegin\nnew $p Part 1\nset $p.id 7\nget $p.id\ncommit\n";
+
+/// How many types, members, clients, transactions and commands a text has.
+fn sizes(alloc: Global, text: &[u8]) -> Result<[usize; 5], ReadFault> {
+    let input = read_try_input(alloc, text)?;
+    let mut sizes = [input.schema.types.items().len(), 0, 0, 0, 0];
+    if let [ty] = input.schema.types.items() {
+        sizes[1] = ty.members.items().len();
+    }
+    sizes[2] = input.job.clients.items().len();
+    if let [client] = input.job.clients.items() {
+        sizes[3] = client.txns.items().len();
+        if let [txn, ..] = client.txns.items() {
+            sizes[4] = txn.commands.items().len();
+        }
+    }
+    Ok(sizes)
+}
+
+#[test]
+fn whole_text(rt: HostRuntime) -> Result<(), Fail> {
+    assert_eq!(rt; sizes(rt.alloc(), WHOLE)?, [1, 1, 1, 1, 3]);
+    let input = read_try_input(rt.alloc(), WHOLE)?;
+    for client in input.job.clients.items() {
+        assert_eq!(rt; client.name.bytes(), b"a".as_slice());
+        for txn in client.txns.items() {
+            assert!(rt; txn.update);
+            for command in txn.commands.items() {
+                assert!(rt; is_expected(command));
+            }
+        }
+    }
+    Ok(())
+}
+
+/// Whether the command is one of the whole text's.
+fn is_expected(command: &Command) -> bool {
+    match command {
+        Command::New { to, ty, segment } => {
+            to.bytes() == b"p".as_slice() && ty.bytes() == b"Part".as_slice() && *segment == 1
+        }
+        Command::Set {
+            object,
+            member,
+            value: Operand::Int(value),
+        } => object.bytes() == b"p".as_slice() && member.bytes() == b"id".as_slice() && *value == 7,
+        Command::Get { object, member } => {
+            object.bytes() == b"p".as_slice() && member.bytes() == b"id".as_slice()
+        }
+        _ => false,
+    }
+}
+
+#[test]
+fn short_texts(rt: HostRuntime) -> Result<(), Fail> {
+    for (text, wanted) in [
+        (b"type Part\n".as_slice(), [1, 0, 0, 0, 0]),
+        (b"type Part\njob".as_slice(), [1, 0, 0, 0, 0]),
+        (
+            b"# parts\n\ntype Part\n  id  int\n\n#job\njob\nclient a\n#begin\nbegin\ncommit\nbegin\ncommit\n".as_slice(),
+            [1, 1, 1, 2, 0],
+        ),
+    ] {
+        assert_eq!(rt; sizes(rt.alloc(), text)?, wanted);
+    }
+    Ok(())
+}
+
+#[test]
+fn refused_texts(rt: HostRuntime) {
+    for text in [
+        b"".as_slice(),
+        b"id int\n".as_slice(),
+        b"type A\ntype B\n".as_slice(),
+        b"type job\n".as_slice(),
+        b"type A\nid int\nid int\n".as_slice(),
+        b"type A\nb ref A\n".as_slice(),
+        b"type A\nid\x01 int\n".as_slice(),
+        b"type A\njob\nbegin\ncommit\n".as_slice(),
+        b"type A\njob\nclient a\nclient b\n".as_slice(),
+        b"type A\njob\nclient a tries=2\n".as_slice(),
+        b"type A\njob\nclient a\nread\ncommit\n".as_slice(),
+        b"type A\njob\nclient a\nbegin\nabort\n".as_slice(),
+        b"type A\njob\nclient a\nbegin\nget $a.b\n".as_slice(),
+        b"type A\njob\nclient a\nbegin\nnew $p A 0\ncommit\n".as_slice(),
+        b"type A\njob\nclient a\nbegin\nnew $p A 256\ncommit\n".as_slice(),
+        b"type A\njob\nclient a\nbegin\nset $p.id +1\ncommit\n".as_slice(),
+        b"type A\njob\nclient a\nturns a 1\n".as_slice(),
+    ] {
+        assert!(rt;
+            matches!(read_try_input(rt.alloc(), text), Err(ReadFault::Refused)),
+            "{text:?}"
+        );
+    }
+}
+
+/// The text of a type with so many members.
+fn text_of_members(alloc: Global, count: u8) -> Result<String, Fail> {
+    let mut text = String::from_str(alloc, "type A\n")?;
+    for i in 0..count {
+        writeln!(text, "m{i} int")?;
+    }
+    Ok(text)
+}
+
+#[test]
+fn members_to_the_limit(rt: HostRuntime) -> Result<(), Fail> {
+    let most = text_of_members(rt.alloc(), 32)?;
+    assert_eq!(rt; sizes(rt.alloc(), most.as_bytes())?, [1, 32, 0, 0, 0]);
+    let too_many = text_of_members(rt.alloc(), 33)?;
+    assert!(rt;
+        matches!(
+            read_try_input(rt.alloc(), too_many.as_bytes()),
+            Err(ReadFault::Refused)
+        )
+    );
+    Ok(())
+}
