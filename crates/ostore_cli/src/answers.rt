@@ -1,0 +1,73 @@
+//! What a top call answers, and how it is printed.
+
+ghost use Rattle.std.specs.Prelude.{◌≡◌};
+ghost use Rattle.ostore_cli.specs.Promise.{end_of};
+ghost use Rattle.ostore_cli.specs.Answers.{IsAnswerTo, IsPrintOf, IsReportPrint, IsLinePrint};
+
+use crate::streams::{InputFault, read_text, write_whole};
+use crate::trying::{TryFault, try_text};
+use crate::words::Words;
+use ostore_base::{Sink, Source, Text};
+use std::alloc::Global;
+
+/// What is to be printed.
+#[derive(Debug, Drop)]
+pub enum Answer {
+    Report(Text),
+    WordsRefused,
+    TextRefused,
+    SourceFault,
+    OutOfMemory,
+}
+
+/// What the words ask for, of the text that the source has.
+pub(crate) fn answer_to<S: Source>(alloc: Global, words: &Words, source: &mut S) -> Answer
+    ensures { IsAnswerTo words.now (end_of (S.left source.old) (S.faults source.old)) (end_of (S.left source.new) (S.faults source.new)) result }
+{
+    if !words.are_row() {
+        return Answer::WordsRefused;
+    }
+    match read_text(alloc, source) {
+        Err(InputFault::SourceFailed) => Answer::SourceFault,
+        Err(InputFault::OutOfMemory) => Answer::OutOfMemory,
+        Ok(text) => match try_text(alloc, &text) {
+            Ok(report) => Answer::Report(report),
+            Err(TryFault::Refused) => Answer::TextRefused,
+            Err(TryFault::OutOfMemory) => Answer::OutOfMemory,
+        },
+    }
+}
+
+/// Prints an answer, and gives its status. Only a report that can't be written has another status
+/// for that.
+pub(crate) fn print_answer<K: Sink>(sink: &mut K, answer: Answer) -> u8
+    ensures { IsPrintOf answer (end_of (K.written sink.old) (K.faults sink.old)) (end_of (K.written sink.new) (K.faults sink.new)) result }
+{
+    match answer {
+        Answer::Report(report) => print_report_text(sink, report.bytes()),
+        Answer::WordsRefused => print_line(sink, b"words refused\n", 2),
+        Answer::TextRefused => print_line(sink, b"text refused\n", 3),
+        Answer::SourceFault => print_line(sink, b"source fault\n", 6),
+        Answer::OutOfMemory => print_line(sink, b"out of memory\n", 8),
+    }
+}
+
+// Status 0 where the whole report was printed, else 7.
+fn print_report_text<K: Sink>(sink: &mut K, report: &[u8]) -> u8
+    ensures { IsReportPrint report.now (end_of (K.written sink.old) (K.faults sink.old)) (end_of (K.written sink.new) (K.faults sink.new)) result }
+{
+    match write_whole(sink, report) {
+        Ok(()) => 0,
+        Err(_) => 7,
+    }
+}
+
+// The status of the line, whether or not the sink takes it.
+fn print_line<K: Sink>(sink: &mut K, line: &[u8], status: u8) -> u8
+    ensures { IsLinePrint line.now status (end_of (K.written sink.old) (K.faults sink.old)) (end_of (K.written sink.new) (K.faults sink.new)) result }
+{
+    match write_whole(sink, line) {
+        Ok(()) => status,
+        Err(_) => status,
+    }
+}

@@ -1,0 +1,20 @@
+//! The program's top calls: from the words of a command line and the bytes of a source to the
+//! bytes of a sink and a status.
+#![tactic(auto)]
+
+mod answers;
+mod mapper;
+mod outcome;
+mod plain;
+mod streams;
+mod top;
+mod trying;
+mod words;
+
+pub use mapper::{High, Low, Mapper, Mixed};
+pub use outcome::{Gate, OpenGate, Outcome};
+pub use top::{ostore, ostore_turns};
+pub use words::Words;
+
+#[cfg(test)]
+mod tests;

@@ -1,0 +1,154 @@
+//! Runs of the top calls over the outside in memory.
+
+mod runs;
+mod slow;
+
+use super::*;
+use ostore_base::{ClientNo, PageNo};
+use runs::{FIRST, TWICE, expect_run, run_over, run_words};
+use slow::{SlowSink, SlowSource};
+use std::test::Fail;
+
+#[test]
+fn texts_and_their_reports(rt: HostRuntime) -> Result<(), Fail> {
+    for (text, report) in [
+        (FIRST, "a.1 commit 1\n  1.1\n  ok\n  7\ncommits 1\n"),
+        (
+            "type Part\nid int\njob\nclient a\nbegin\nnew $p Part 1\nset $p.id 9223372036854775807\nget $p.id\nset $p.id -9223372036854775808\nget $p.id\ncommit\n",
+            "a.1 commit 1\n  1.1\n  ok\n  9223372036854775807\n  ok\n  -9223372036854775808\ncommits 1\n",
+        ),
+        (
+            "type Part\nid int\njob\nclient a\nbegin\nget $p.id\nnew $p Box 1\nset $p.id 1\nnew $p Part 1\nget $p.size\ncommit\n",
+            "a.1 commit 1\n  refused 1 NoVariable\n  refused 4 WrongType\n  refused 1 NoVariable\n  1.1\n  refused 2 NoMember\ncommits 1\n",
+        ),
+        ("type Part\nid int\njob\n", "commits 0\n"),
+        ("type Part\n", "commits 0\n"),
+        (
+            TWICE,
+            "a.1 commit 1\n  1.1\n  1.2\na.2 commit 2\n  1.3\n  2.1\n  refused 1 NoVariable\na.3 commit 3\ncommits 3\n",
+        ),
+    ] {
+        expect_run(&rt, rt.alloc(), text, 0, report)?;
+    }
+    Ok(())
+}
+
+#[test]
+fn refused_texts(rt: HostRuntime) -> Result<(), Fail> {
+    for text in [
+        "",
+        "type Part\nid int\njob\nclient a\nclient b\n",
+        "type Part\nid int\njob\nclient a tries 2\n",
+        "type Part\nid int\njob\nclient a\nread\ncommit\n",
+        "type Part\nid int\njob\nclient a\nbegin\nabort\n",
+        "type Part\nnext ref Part\njob\n",
+        "type Part\ntype Box\njob\n",
+        "type Part\nid int\njob\nclient a\nbegin\n",
+        "type Part\nid int\njob\nclient a\nbegin\nnew $p Part 0\ncommit\n",
+        "type Part\nid int\njob\nclient a\nturns a\n",
+    ] {
+        expect_run(&rt, rt.alloc(), text, 3, "text refused\n")?;
+    }
+    Ok(())
+}
+
+#[test]
+fn refused_words(rt: HostRuntime) -> Result<(), Fail> {
+    for words in [&[][..], &["run"], &["try", "try"], &["tries"]] {
+        let (status, printed) = run_words(rt.alloc(), words, FIRST)?;
+        assert_eq!(rt; status, 2);
+        assert!(rt; printed.bytes() == b"words refused\n".as_slice());
+        assert!(rt; printed.calls() == 1);
+    }
+    Ok(())
+}
+
+#[test]
+fn the_call_that_takes_threads(rt: HostRuntime) -> Result<(), Fail> {
+    let alloc = rt.alloc();
+    let mut words = Words::new(alloc);
+    words.push("try")?;
+    let mut source = runs::source_of(alloc, FIRST)?;
+    let mut sink = ostore_base::MemSink::new(alloc, Vec::new(alloc));
+    let disk = ostore_base::MemDisk::new([1, 2].to_vec(alloc)?, Vec::new(alloc));
+    let outcome = ostore(
+        rt,
+        alloc,
+        &words,
+        &mut source,
+        &mut sink,
+        disk,
+        &Mixed,
+        &OpenGate,
+    );
+    assert_eq!(rt; outcome.status, 0);
+    assert_eq!(rt; outcome.disk.calls(), 0);
+    assert_eq!(rt; outcome.disk.bytes(), [1, 2].as_slice());
+    assert!(rt; sink.bytes() == b"a.1 commit 1\n  1.1\n  ok\n  7\ncommits 1\n".as_slice());
+    Ok(())
+}
+
+#[test]
+fn each_read_fails_in_turn(rt: HostRuntime) -> Result<(), Fail> {
+    let alloc = rt.alloc();
+    let reads = TWICE.len() as u64 + 1;
+    for failing in 1..=reads {
+        let mut source = SlowSource::new(alloc, TWICE, failing)?;
+        let mut sink = SlowSink::new(alloc, 0)?;
+        assert_eq!(rt; run_over(alloc, &mut source, &mut sink)?, 6);
+        assert!(rt; sink.bytes() == b"source fault\n".as_slice());
+        assert_eq!(rt; source.faults(), 1);
+    }
+    Ok(())
+}
+
+#[test]
+fn each_write_fails_in_turn(rt: HostRuntime) -> Result<(), Fail> {
+    let alloc = rt.alloc();
+    let mut source = SlowSource::new(alloc, TWICE, 0)?;
+    let mut whole = SlowSink::new(alloc, 0)?;
+    assert_eq!(rt; run_over(alloc, &mut source, &mut whole)?, 0);
+    let (_, report) = run_words(alloc, &["try"], TWICE)?;
+    assert!(rt; whole.bytes() == report.bytes());
+    let writes = report.bytes().len() as u64;
+    for failing in 1..=writes {
+        let mut source = SlowSource::new(alloc, TWICE, 0)?;
+        let mut sink = SlowSink::new(alloc, failing)?;
+        assert_eq!(rt; run_over(alloc, &mut source, &mut sink)?, 7);
+        assert_eq!(rt; sink.bytes().len() as u64, failing - 1);
+        assert!(rt; report.bytes().starts_with(sink.bytes()));
+    }
+    Ok(())
+}
+
+#[test]
+fn the_longest_text(rt: HostRuntime) -> Result<(), Fail> {
+    let alloc = rt.alloc();
+    for (length, status) in [(4194304usize, 0), (4194305, 3)] {
+        let mut text = FIRST.as_bytes().to_vec(alloc)?;
+        text.push(b'#')?;
+        for _ in text.len()..length {
+            text.push(b'x')?;
+        }
+        let mut source = ostore_base::MemSource::new(text, Vec::new(alloc));
+        let mut sink = SlowSink::new(alloc, 0)?;
+        assert_eq!(rt; run_over(alloc, &mut source, &mut sink)?, status);
+    }
+    Ok(())
+}
+
+fn choose<M: Mapper>(mapper: &M) -> u32 {
+    mapper.choose(ClientNo(2), PageNo(3), 10)
+}
+
+fn pass<G: Gate>(gate: &G) {
+    gate.before(ClientNo(0), 0);
+}
+
+#[test]
+fn mappers_and_the_open_gate(rt: HostRuntime) {
+    assert_eq!(rt; choose(&Low), 0);
+    assert_eq!(rt; choose(&High), 9);
+    assert_eq!(rt; choose(&Mixed), 3);
+    pass(&OpenGate);
+}

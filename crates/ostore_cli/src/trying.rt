@@ -1,0 +1,54 @@
+//! Running the text of `try`.
+
+ghost use Rattle.std.specs.Prelude.{◌≡◌, ℕ, List, IfOk, IsErrOf};
+ghost use Rattle.ostore_job_text.specs.Spelling.{Says, IsRefused};
+ghost use Rattle.ostore_cli.specs.Promise.{IsReportOf};
+
+mod running;
+
+use crate::plain::Stop;
+use ostore_base::Text;
+use ostore_job_text::{ReadFault, Tail, TryInput, print_report, read_try_input};
+use running::run_job;
+use std::alloc::Global;
+
+/// Why a text could not be run.
+#[derive(Clone, Copy, Debug, PartialEq, Eq)]
+pub enum TryFault {
+    /// The text spells no input that is built.
+    Refused,
+    OutOfMemory,
+}
+
+/// Runs what a text asks for on a fresh database in memory, and gives the report.
+pub(crate) fn try_text(alloc: Global, text: &[u8]) -> Result<Text, TryFault>
+    ensures report { IfOk result (λ report. IsReportOf text.now report) }
+    ensures refused { IsErrOf result TryFault.Refused → IsRefused text.now }
+{
+    match read_try_input(alloc, text) {
+        Ok(input) => report_on(alloc, &input),
+        Err(ReadFault::Refused) => Err(TryFault::Refused),
+        Err(ReadFault::OutOfMemory) => Err(TryFault::OutOfMemory),
+    }
+}
+
+// Runs an input, and prints what became of it. An input that a text says can be run.
+fn report_on(alloc: Global, input: &TryInput) -> Result<Text, TryFault>
+    ensures report { IfOk result (λ report. (text : List ℕ) → Says text input.now → IsReportOf text report) }
+    ensures refused { IsErrOf result TryFault.Refused → (text : List ℕ) → Says text input.now → ⊥ }
+{
+    let ran = match run_job(alloc, &input.schema, input.job.clients.items()) {
+        Ok(ran) => ran,
+        Err(Stop::NotBuilt) => return Err(TryFault::Refused),
+        Err(Stop::OutOfMemory) => return Err(TryFault::OutOfMemory),
+    };
+    let tail = Tail {
+        disk_fault_after: None,
+        commits: ran.commits,
+        fetches: None,
+    };
+    match print_report(alloc, &input.job, &ran.results, tail) {
+        Ok(report) => Ok(report),
+        Err(_) => Err(TryFault::OutOfMemory),
+    }
+}
