@@ -31,6 +31,11 @@ impl<T> ListOf<T> {
         }
     }
 
+    /// The allocator that it was made with.
+    pub fn allocator(&self) -> Global {
+        *self.items.allocator()
+    }
+
     /// The list of a vector's items. It takes no memory.
     pub fn from_vec(items: Vec<T>) -> ListOf<T>
         ensures { result ≡ items.items }
