@@ -1,0 +1,105 @@
+//! The lines of a text, and their words.
+
+mod words;
+
+ghost use Rattle.std.specs.Prelude.{◌≡◌, ◌+◌, ◌^◌, ◌<◌, [], ◌∷◌, ◌++◌, length, map, filter, IfOk, OnOk};
+ghost use Rattle.ostore_text_words.specs.Lines.{has_words, is_comment, line_words, lines_of, parting_of};
+ghost use Rattle.ostore_text_words.specs.Reading.{seen_word, seen_lines};
+
+use self::words::{is_only, is_plain, judged_at, words_of_line};
+use ostore_base::{ListOf, OutOfMemory};
+use std::alloc::Global;
+
+/// A word of a text.
+#[derive(Clone, Copy, Debug)]
+pub struct Word<'a> {
+    /// Where it stands, in bytes from the text's start: the place of its first byte, or of the first control byte
+    /// that it holds.
+    pub at: usize,
+    pub bytes: &'a [u8],
+}
+
+/// A line of a text that has words.
+#[derive(Debug, Drop)]
+pub struct Line<'a> {
+    pub words: ListOf<Word<'a>>,
+    /// Where the line ends: the place of its byte 10, or the text's length.
+    pub end: usize,
+}
+
+/// Whether the first word of the line begins with `#`.
+fn is_comment(line: &[u8]) -> bool
+    ensures { result ≡ is_comment line.now }
+{
+    for byte in line {
+        if *byte != b' ' {
+            return *byte == b'#';
+        }
+    }
+    false
+}
+
+/// The words of a line that begins at `at`: none of a comment, unless it holds a control byte.
+fn line_words<'a>(alloc: Global, at: usize, line: &'a [u8]) -> Result<ListOf<Word<'a>>, OutOfMemory>
+    requires { at + length line.now < 2 ^ 64 }
+    ensures { IfOk result (λ words. map seen_word words ≡ line_words at line.now) }
+{
+    if !is_comment(line) {
+        return words_of_line(alloc, at, line);
+    }
+    let mut words = ListOf::new(alloc);
+    if !is_plain(line) {
+        words.push(Word {
+            at: judged_at(at, line),
+            bytes: line,
+        })?;
+    }
+    Ok(words)
+}
+
+/// Adds a line, if it has words.
+fn push_line<'a>(
+    lines: &mut ListOf<Line<'a>>,
+    words: ListOf<Word<'a>>,
+    end: usize,
+) -> Result<(), OutOfMemory>
+    ensures { OnOk result (seen_lines lines.new
+        ≡ seen_lines lines.old ++ filter has_words (record { words = map seen_word words.entry; end = end } ∷ [])) }
+{
+    if !words.items().is_empty() {
+        lines.push(Line { words, end })?;
+    }
+    Ok(())
+}
+
+/// The lines of a text that aren't passed over. A line without words is passed over, and so is a comment
+/// that holds no control byte.
+pub fn read_lines<'a>(alloc: Global, text: &'a [u8]) -> Result<ListOf<Line<'a>>, OutOfMemory>
+    ensures { IfOk result (λ lines. seen_lines lines ≡ lines_of text.now) }
+{
+    let mut lines = ListOf::new(alloc);
+    let mut at = 0;
+    for line in text.split(|byte| *byte == b'\n') {
+        let end = at + line.len();
+        let words = line_words(alloc, at, line)?;
+        push_line(&mut lines, words, end)?;
+        at = end + 1;
+    }
+    Ok(lines)
+}
+
+/// Where the first line begins whose only word is this one, and where the line behind it begins (the
+/// text's length and 1 more, where that line ends the text without a byte 10).
+pub fn find_parting(text: &[u8], word: &[u8]) -> Option<(usize, usize)>
+    ensures { result ≡ parting_of word.now text.now }
+{
+    let mut at = 0;
+    for line in text.split(|byte| *byte == b'\n') {
+        let behind = at + line.len() + 1;
+        if is_only(word, line) {
+            return Some((at, behind));
+        }
+        at = behind;
+    }
+    None
+}

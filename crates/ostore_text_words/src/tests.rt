@@ -1,0 +1,168 @@
+//! Texts with the words and places that they have, and words with what they spell.
+
+use super::*;
+use std::process::Abort;
+use std::test::Fail;
+
+/// The line has these words at these places, and ends there.
+fn expect_line(rt: &impl Abort, lines: &[Line], nth: usize, words: &[(usize, &[u8])], end: usize) {
+    assert!(rt; nth < lines.len());
+    assert_eq!(rt; lines[nth].end, end);
+    let found = lines[nth].words.items();
+    assert_eq!(rt; found.len(), words.len());
+    for (word, other) in found.iter().zip(words) {
+        assert_eq!(rt; word.at, other.0);
+        assert!(rt; word.bytes == other.1);
+    }
+}
+
+#[test]
+fn lines_and_comments(rt: HostRuntime) -> Result<(), Fail> {
+    let text = b"type  Part \n   # another\n\n x int#\n#\ncommit";
+    let lines = read_lines(rt.alloc(), text)?;
+    let lines = lines.items();
+    assert_eq!(rt; lines.len(), 3);
+    expect_line(&rt, lines, 0, &[(0, b"type"), (6, b"Part")], 11);
+    expect_line(&rt, lines, 1, &[(27, b"x"), (29, b"int#")], 33);
+    expect_line(&rt, lines, 2, &[(36, b"commit")], 42);
+    for empty in [b"".as_slice(), b"\n\n".as_slice(), b"  \n# x".as_slice()] {
+        assert!(rt; read_lines(rt.alloc(), empty)?.items().is_empty());
+    }
+    Ok(())
+}
+
+#[test]
+fn quoted_words(rt: HostRuntime) -> Result<(), Fail> {
+    let text = br#"say "a b" "c \" d\\" e "open end"#;
+    let lines = read_lines(rt.alloc(), text)?;
+    let words: &[(usize, &[u8])] = &[
+        (0, b"say"),
+        (4, br#""a b""#),
+        (10, br#""c \" d\\""#),
+        (21, b"e"),
+        (23, br#""open end"#),
+    ];
+    expect_line(&rt, lines.items(), 0, words, 32);
+    let text = b"\"a b\"c d\nx\"a b\"\n\"a \\";
+    let lines = read_lines(rt.alloc(), text)?;
+    let lines = lines.items();
+    assert_eq!(rt; lines.len(), 3);
+    expect_line(&rt, lines, 0, &[(0, b"\"a b\"c"), (7, b"d")], 8);
+    expect_line(&rt, lines, 1, &[(9, b"x\"a"), (13, b"b\"")], 15);
+    expect_line(&rt, lines, 2, &[(16, b"\"a \\")], 20);
+    Ok(())
+}
+
+#[test]
+fn control_bytes(rt: HostRuntime) -> Result<(), Fail> {
+    let text = b"ab\tc d\n# fine\n# a\x01b c\nx\r\n\"a \x1f b\"";
+    let lines = read_lines(rt.alloc(), text)?;
+    let lines = lines.items();
+    assert_eq!(rt; lines.len(), 4);
+    expect_line(&rt, lines, 0, &[(2, b"ab\tc"), (5, b"d")], 6);
+    expect_line(&rt, lines, 1, &[(17, b"# a\x01b c")], 21);
+    expect_line(&rt, lines, 2, &[(23, b"x\r")], 24);
+    expect_line(&rt, lines, 3, &[(28, b"\"a \x1f b\"")], 32);
+    Ok(())
+}
+
+#[test]
+fn partings(rt: HostRuntime) {
+    for (text, parting) in [
+        (b"type A\n  job \nclient a\n".as_slice(), Some((7, 14))),
+        (
+            b"jobs\njob x\nx job\n\"job\"\njob".as_slice(),
+            Some((23, 27)),
+        ),
+        (b"job\njob\n".as_slice(), Some((0, 4))),
+        (b"a job\n# job\n".as_slice(), None),
+        (b"".as_slice(), None),
+    ] {
+        assert_eq!(rt; find_parting(text, b"job"), parting);
+    }
+}
+
+#[test]
+fn identifiers(rt: HostRuntime) {
+    for (word, is_one) in [
+        (b"abcdefghijklmnopqrstuvwxyz12345".as_slice(), true),
+        (b"a_1".as_slice(), true),
+        (b"jobs".as_slice(), true),
+        (b"abcdefghijklmnopqrstuvwxyz123456".as_slice(), false),
+        (b"job".as_slice(), false),
+        (b"_a".as_slice(), false),
+        (b"".as_slice(), false),
+    ] {
+        assert_eq!(rt; is_identifier(word), is_one);
+    }
+}
+
+#[test]
+fn dotted_words(rt: HostRuntime) {
+    assert!(rt; read_dotted(b"Part.x") == Some((b"Part".as_slice(), b"x".as_slice())));
+    for word in [
+        b"Part".as_slice(),
+        b"Part.x.y".as_slice(),
+        b"Part.".as_slice(),
+        b".x".as_slice(),
+        b"Part.type".as_slice(),
+    ] {
+        assert!(rt; read_dotted(word).is_none());
+    }
+}
+
+#[test]
+fn ints_have_one_form(rt: HostRuntime) {
+    for (word, number) in [
+        (b"0".as_slice(), Some(0)),
+        (b"-7".as_slice(), Some(-7)),
+        (b"9223372036854775807".as_slice(), Some(i64::MAX)),
+        (b"-9223372036854775808".as_slice(), Some(i64::MIN)),
+        (b"9223372036854775808".as_slice(), None),
+        (b"-9223372036854775809".as_slice(), None),
+        (b"-0".as_slice(), None),
+        (b"01".as_slice(), None),
+        (b"+1".as_slice(), None),
+        (b"-".as_slice(), None),
+        (b"".as_slice(), None),
+        (b"\xff".as_slice(), None),
+    ] {
+        assert_eq!(rt; read_int(word), number);
+    }
+}
+
+#[test]
+fn counts_have_one_form_and_bounds(rt: HostRuntime) {
+    for (word, least, most, count) in [
+        (b"0".as_slice(), 0, 255, Some(0)),
+        (b"0".as_slice(), 1, 255, None),
+        (b"01".as_slice(), 0, 255, None),
+        (b"255".as_slice(), 1, 255, Some(255)),
+        (b"256".as_slice(), 1, 255, None),
+        (b"7".as_slice(), 9, 5, None),
+        (
+            b"18446744073709551615".as_slice(),
+            0,
+            u64::MAX,
+            Some(u64::MAX),
+        ),
+        (b"18446744073709551616".as_slice(), 0, u64::MAX, None),
+        (b"+1".as_slice(), 0, 255, None),
+        (b"".as_slice(), 0, 255, None),
+    ] {
+        assert_eq!(rt; read_count(word, least, most), count);
+    }
+}
+
+#[test]
+fn utf8_faults(rt: HostRuntime) {
+    for (text, fault) in [
+        (b"".as_slice(), None),
+        (b"Part \xc3\xa9\n".as_slice(), None),
+        (b"a\xffb".as_slice(), Some(1)),
+        (b"ab\xc3".as_slice(), Some(2)),
+        (b"\xc3\xa9\xed\xa0\x80".as_slice(), Some(2)),
+    ] {
+        assert_eq!(rt; utf8_fault(text), fault);
+    }
+}
