@@ -1,0 +1,11 @@
+pub mod NumberLaws
+pub mod RowLaws
+pub mod ImageLaws
+pub mod RangeLaws
+pub mod PageShape
+pub mod CellLaws
+pub mod NthLaws
+pub mod AddLaws
+pub mod DeadLaws
+pub mod ApartLaws
+pub mod EditLaws
