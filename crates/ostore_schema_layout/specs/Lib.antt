@@ -1,0 +1,13 @@
+pub mod Cells
+pub mod Naming
+pub mod Spelling
+pub mod Lawful
+pub mod Declaring
+pub mod Faults
+pub mod Order
+pub mod Resolving
+pub mod Parsing
+pub mod Printing
+pub mod Judging
+pub mod Titles
+pub mod Walking

@@ -1,5 +1,11 @@
 //! The types of a schema.
 
+ghost use Rattle.std.specs.Prelude.{◌≡◌, option_map};
+ghost use Rattle.ostore_schema_layout.specs.Cells.{members_of, type_at};
+ghost use Rattle.ostore_schema_layout.specs.Naming.{member_name, type_name};
+
+mod copying;
+
 use ostore_base::{ListOf, Text};
 
 /// A type by its place in the schema's text. The first type is 1.
@@ -61,4 +67,43 @@ pub type TypeDefs = ListOf<TypeDef>;
 #[derive(Debug, Drop)]
 pub struct Schema {
     pub types: TypeDefs,
+}
+
+impl Schema {
+    /// The members of a type, or none where there is no such type.
+    pub fn members_of(&self, ty: TypeNo) -> &[MemberDef]
+        ensures { result.now ≡ members_of self.now ty.0 }
+    {
+        match self.type_at(ty) {
+            Some(ty) => ty.members.items(),
+            None => &[],
+        }
+    }
+
+    /// The name of a type, or none where there is no such type.
+    pub fn type_name(&self, ty: TypeNo) -> &[u8]
+        ensures { result.now ≡ type_name self.now ty }
+    {
+        match self.type_at(ty) {
+            Some(ty) => ty.name.bytes(),
+            None => b"",
+        }
+    }
+
+    /// The name of a member of a type, or none where there is no such member.
+    pub fn member_name(&self, ty: TypeNo, member: MemberNo) -> &[u8]
+        ensures { result.now ≡ member_name self.now ty member }
+    {
+        match self.members_of(ty).get(usize::from(member.0)) {
+            Some(member) => member.name.bytes(),
+            None => b"",
+        }
+    }
+
+    /// The type of a number, where there is one.
+    fn type_at(&self, ty: TypeNo) -> Option<&TypeDef>
+        ensures { option_map (λ found. found.now) result ≡ type_at self.now ty.0 }
+    {
+        self.types.items().get(usize::from(ty.0).checked_sub(1)?)
+    }
 }

@@ -1,0 +1,8 @@
+use Rattle.std.proofs.Common.{◌≡◌, drop}
+use Rattle.ostore_text_words.specs.Reading.{seen_lines}
+use Rattle.ostore_schema_layout.specs.Declaring.{declared_behind}
+use Rattle.ostore_schema_layout.proofs.ReaderLaws.{with_members}
+use Rattle.ostore_schema_layout.proofs.reading.types.read_members.Given as goal
+
+abbrev pub invariant-loop-i : goal.invariant-loop-i
+invariant-loop-i l = with_members l.members (declared_behind (seen_lines (drop l.i l.lines))) ≡ declared_behind (seen_lines l.lines)

@@ -1,0 +1,54 @@
+-- The schema that declarations without a fault give: names become the numbers of what they mean.
+use Rattle.std.specs.Prelude.{ℕ, ◌+◌, List, map, Option, Some, None}
+use Rattle.std.specs.List.{position_or_len}
+use Rattle.std.specs.Str.{bytes_eq}
+use Rattle.ostore_schema_layout.specs.declared.schema.Schema.{Schema}
+use Rattle.ostore_schema_layout.specs.declared.schema.TypeDef.{TypeDef}
+use Rattle.ostore_schema_layout.specs.declared.schema.TypeNo.{TypeNo}
+use Rattle.ostore_schema_layout.specs.declared.schema.MemberDef.{MemberDef}
+use Rattle.ostore_schema_layout.specs.declared.schema.MemberNo.{MemberNo}
+use Rattle.ostore_schema_layout.specs.declared.schema.MemberKind.{MemberKind}
+use Rattle.ostore_schema_layout.specs.declared.schema.MemberKind.TheVariants as kinds
+use Rattle.ostore_schema_layout.specs.declared.schema.Inverse.{Inverse}
+use Rattle.ostore_schema_layout.specs.declared.declarations.TypeDeclaration.{TypeDeclaration}
+use Rattle.ostore_schema_layout.specs.declared.declarations.MemberDeclaration.{MemberDeclaration}
+use Rattle.ostore_schema_layout.specs.declared.declarations.KindDeclaration.{KindDeclaration}
+use Rattle.ostore_schema_layout.specs.declared.declarations.KindDeclaration.TheVariants as declared
+use Rattle.ostore_schema_layout.specs.declared.declarations.InverseDeclaration.{InverseDeclaration}
+use Rattle.ostore_schema_layout.specs.Faults.{type_named, members_found, inverse_named}
+
+-- types count from 1, and members from 0
+abbrev pub type_number : List TypeDeclaration → List ℕ → TypeNo
+type_number types name = record { 0 = position_or_len (λ ty. bytes_eq ty.name.name name) types + 1 }
+
+abbrev pub member_number : List MemberDeclaration → List ℕ → MemberNo
+member_number members name = record { 0 = position_or_len (λ member. bytes_eq member.name.name name) members }
+
+abbrev pub resolved_kind : List TypeDeclaration → KindDeclaration → MemberKind
+resolved_kind types declared.Int = kinds.Int
+resolved_kind types (declared.Text max) = kinds.Text max
+resolved_kind types (declared.Ref target inverse) = kinds.Ref (type_number types target.name)
+resolved_kind types (declared.Set target inverse) = kinds.Set (type_number types target.name)
+resolved_kind types (declared.List target) = kinds.List (type_number types target.name)
+resolved_kind types (declared.DictInt target) = kinds.DictInt (type_number types target.name)
+resolved_kind types (declared.DictText target) = kinds.DictText (type_number types target.name)
+
+abbrev pub resolved_inverse : List TypeDeclaration → Option InverseDeclaration → Option Inverse
+resolved_inverse types None = None
+resolved_inverse types (Some inverse) = Some (record {
+  ty = type_number types inverse.ty;
+  member = member_number (members_found (type_named types inverse.ty)) inverse.member;
+})
+
+abbrev pub resolved_member : List TypeDeclaration → MemberDeclaration → MemberDef
+resolved_member types member = record {
+  name = member.name.name;
+  kind = resolved_kind types member.kind;
+  inverse = resolved_inverse types (inverse_named member.kind);
+}
+
+abbrev pub resolved_type : List TypeDeclaration → TypeDeclaration → TypeDef
+resolved_type types ty = record { name = ty.name.name; members = map (resolved_member types) ty.members }
+
+abbrev pub resolved : List TypeDeclaration → Schema
+resolved types = record { types = map (resolved_type types) types }

@@ -1,0 +1,133 @@
+//! Declarations without a fault as a schema: names become the numbers of what they mean.
+
+ghost use Rattle.std.specs.Prelude.{◌≡◌, ◌≤◌, length, IfOk, position};
+ghost use Rattle.std.specs.Str.{bytes_eq};
+ghost use Rattle.ostore_schema_layout.specs.Faults.{inverse_named as inverse_named_of};
+ghost use Rattle.ostore_schema_layout.specs.Resolving.{type_number as type_number_of, member_number as member_number_of, resolved_kind as resolved_kind_of, resolved_inverse as resolved_inverse_of, resolved_member as resolved_member_of, resolved_type as resolved_type_of, resolved as resolved_of};
+ghost use Rattle.ostore_schema_layout.specs.Judging.{AreFew};
+
+use crate::declarations::{KindDeclaration, MemberDeclaration, TypeDeclaration};
+use crate::reading::faults::inverse_named;
+use crate::reading::names::members_named;
+use crate::schema::{Inverse, MemberDef, MemberKind, MemberNo, Schema, TypeDef, TypeNo};
+use ostore_base::{ListOf, OutOfMemory};
+use std::alloc::Global;
+
+/// The place of the first type of this name.
+fn type_place(types: &[TypeDeclaration], name: &[u8]) -> Option<usize>
+    ensures { result ≡ position (λ ty. bytes_eq ty.name.name name.now) types.now }
+{
+    types.iter().position(|ty| ty.name.name.bytes() == name)
+}
+
+/// The place of the first member of this name.
+fn member_place(members: &[MemberDeclaration], name: &[u8]) -> Option<usize>
+    ensures { result ≡ position (λ member. bytes_eq member.name.name name.now) members.now }
+{
+    members
+        .iter()
+        .position(|member| member.name.name.bytes() == name)
+}
+
+/// The number of the type that a name means.
+fn type_number(types: &[TypeDeclaration], name: &[u8]) -> TypeNo
+    requires { length types.now ≤ 64 }
+    ensures { result ≡ type_number_of types.now name.now }
+{
+    let place = type_place(types, name).unwrap_or(types.len());
+    TypeNo(place as u8 + 1)
+}
+
+/// The number of the member that a name means.
+fn member_number(members: &[MemberDeclaration], name: &[u8]) -> MemberNo
+    requires { length members.now ≤ 32 }
+    ensures { result ≡ member_number_of members.now name.now }
+{
+    let place = member_place(members, name).unwrap_or(members.len());
+    MemberNo(place as u8)
+}
+
+/// The kind, with the number of the type that it names.
+fn resolved_kind(types: &[TypeDeclaration], kind: &KindDeclaration) -> MemberKind
+    requires { length types.now ≤ 64 }
+    ensures { result ≡ resolved_kind_of types.now kind.now }
+{
+    match kind {
+        KindDeclaration::Int => MemberKind::Int,
+        KindDeclaration::Text { max } => MemberKind::Text { max: *max },
+        KindDeclaration::Ref { target, .. } => MemberKind::Ref {
+            target: type_number(types, target.name.bytes()),
+        },
+        KindDeclaration::Set { target, .. } => MemberKind::Set {
+            target: type_number(types, target.name.bytes()),
+        },
+        KindDeclaration::List { target } => MemberKind::List {
+            target: type_number(types, target.name.bytes()),
+        },
+        KindDeclaration::DictInt { target } => MemberKind::DictInt {
+            target: type_number(types, target.name.bytes()),
+        },
+        KindDeclaration::DictText { target } => MemberKind::DictText {
+            target: type_number(types, target.name.bytes()),
+        },
+    }
+}
+
+/// The inverse that a kind names, with the numbers of its type and its member.
+fn resolved_inverse(types: &[TypeDeclaration], kind: &KindDeclaration) -> Option<Inverse>
+    requires { AreFew types.now }
+    ensures { result ≡ resolved_inverse_of types.now (inverse_named_of kind.now) }
+{
+    let inverse = inverse_named(kind)?;
+    let members = members_named(types, inverse.ty.bytes());
+    Some(Inverse {
+        ty: type_number(types, inverse.ty.bytes()),
+        member: member_number(members, inverse.member.bytes()),
+    })
+}
+
+/// The member, with numbers for names.
+fn resolved_member(
+    types: &[TypeDeclaration],
+    member: &MemberDeclaration,
+) -> Result<MemberDef, OutOfMemory>
+    requires { AreFew types.now }
+    ensures { IfOk result (λ found. found ≡ resolved_member_of types.now member.now) }
+{
+    Ok(MemberDef {
+        name: member.name.name.copy()?,
+        kind: resolved_kind(types, &member.kind),
+        inverse: resolved_inverse(types, &member.kind),
+    })
+}
+
+/// The type, with numbers for the names in its members.
+fn resolved_type(
+    alloc: Global,
+    types: &[TypeDeclaration],
+    ty: &TypeDeclaration,
+) -> Result<TypeDef, OutOfMemory>
+    requires { AreFew types.now }
+    ensures { IfOk result (λ found. found ≡ resolved_type_of types.now ty.now) }
+{
+    let mut members = ListOf::new(alloc);
+    for member in ty.members.items() {
+        members.push(resolved_member(types, member)?)?;
+    }
+    Ok(TypeDef {
+        name: ty.name.name.copy()?,
+        members,
+    })
+}
+
+/// The schema of declarations without a fault.
+pub(super) fn resolved(alloc: Global, types: &[TypeDeclaration]) -> Result<Schema, OutOfMemory>
+    requires { AreFew types.now }
+    ensures { IfOk result (λ schema. schema ≡ resolved_of types.now) }
+{
+    let mut found = ListOf::new(alloc);
+    for ty in types {
+        found.push(resolved_type(alloc, types, ty)?)?;
+    }
+    Ok(Schema { types: found })
+}

@@ -1,0 +1,94 @@
+//! Schemas that are built by hand.
+
+ghost use Rattle.std.specs.Prelude.{◌≡◌, length, map, IfOk};
+ghost use Rattle.ostore_schema_layout.specs.Lawful.{IsLawful};
+
+use crate::schema::{Inverse, MemberDef, MemberKind, MemberNo, Schema, TypeDef, TypeNo};
+use ostore_base::{ListOf, OutOfMemory, Text};
+use std::alloc::Global;
+
+/// A type, from its name, and of each member the name, what it holds and its inverse.
+fn ty(
+    alloc: Global,
+    name: &str,
+    rows: &[(&str, MemberKind, Option<Inverse>)],
+) -> Result<TypeDef, OutOfMemory>
+    ensures name { IfOk result (λ ty. ty.name ≡ name.now) }
+    ensures members { IfOk result (λ ty. ty.members ≡ map (λ row. record { name = row.0.now; kind = row.1; inverse = row.2 }) rows.now) }
+{
+    let mut members = ListOf::new(alloc);
+    for (name, kind, inverse) in rows {
+        members.push(MemberDef {
+            name: Text::from_bytes(alloc, name.as_bytes())?,
+            kind: *kind,
+            inverse: *inverse,
+        })?;
+    }
+    Ok(TypeDef {
+        name: Text::from_bytes(alloc, name.as_bytes())?,
+        members,
+    })
+}
+
+/// A schema of three types: a part, one with members of every kind, and one without members.
+pub fn three_types(alloc: Global) -> Result<Schema, OutOfMemory>
+    ensures lawful { IfOk result IsLawful }
+    ensures three { IfOk result (λ schema. length schema.types ≡ 3) }
+{
+    let part = TypeNo(1);
+    let every = TypeNo(2);
+    let empty = TypeNo(3);
+    let parts = [
+        ("id", MemberKind::Int, None),
+        ("next", MemberKind::Ref { target: part }, None),
+    ];
+    let all = [
+        ("number", MemberKind::Int, None),
+        ("long", MemberKind::Text { max: 40 }, None),
+        ("short", MemberKind::Text { max: 3 }, None),
+        ("middle", MemberKind::Text { max: 4 }, None),
+        ("one", MemberKind::Ref { target: part }, None),
+        ("many", MemberKind::Set { target: part }, None),
+        ("row", MemberKind::List { target: every }, None),
+        ("by_number", MemberKind::DictInt { target: empty }, None),
+        ("by_name", MemberKind::DictText { target: part }, None),
+    ];
+    let part = ty(alloc, "Part", &parts)?;
+    let every = ty(alloc, "Every", &all)?;
+    let empty = ty(alloc, "Empty", &[])?;
+    let types = vec![in alloc; part, every, empty]?;
+    Ok(Schema {
+        types: ListOf::from_vec(types),
+    })
+}
+
+/// A schema of two types with links between them, and with members of every kind.
+pub fn linked_types(alloc: Global) -> Result<Schema, OutOfMemory> {
+    let part = TypeNo(1);
+    let group = TypeNo(2);
+    let parts = [
+        ("id", MemberKind::Int, None),
+        ("label", MemberKind::Text { max: 40 }, None),
+        ("owner", MemberKind::Ref { target: group }, inverse(2, 0)),
+        ("after", MemberKind::List { target: part }, None),
+        ("by_id", MemberKind::DictInt { target: part }, None),
+        ("by_label", MemberKind::DictText { target: group }, None),
+    ];
+    let groups = [
+        ("parts", MemberKind::Set { target: part }, inverse(1, 2)),
+        ("boss", MemberKind::Ref { target: group }, inverse(2, 2)),
+        ("staff", MemberKind::Set { target: group }, inverse(2, 1)),
+    ];
+    let types = vec![in alloc; ty(alloc, "Part", &parts)?, ty(alloc, "Group", &groups)?]?;
+    Ok(Schema {
+        types: ListOf::from_vec(types),
+    })
+}
+
+/// The member of a type.
+fn inverse(ty: u8, member: u8) -> Option<Inverse> {
+    Some(Inverse {
+        ty: TypeNo(ty),
+        member: MemberNo(member),
+    })
+}
