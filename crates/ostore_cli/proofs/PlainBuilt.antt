@@ -55,7 +55,7 @@ members_in-ints (x ∷ xs) (suc n) all = members_in-ints xs n all.1
 at_named-IsSome : (vars : Vars) (graph : Graph) (o : Option (ℕ × MemberDef)) (next : ℕ → MemberKind → Option Stepped) → IfAny IsIntMember o → ((place : ℕ) → IsSome (next place kinds.Int)) → IsSome (at_named vars graph o next)
 unfolding IfAny
 at_named-IsSome vars graph None next int goes = refl
-at_named-IsSome vars graph (Some found) next int goes = subst (λ (kind : MemberKind). IsSome (next found.0 kind)) (sym int.kind) (goes found.0)
+at_named-IsSome vars graph (Some found) next int goes = subst (λ (kind : MemberKind). IsSome (next found.0 kind)) (sym int) (goes found.0)
 
 at_object-IsSome : (vars : Vars) (graph : Graph) (o : Option Object) (next : Object → Option Stepped) → ((object : Object) → IsSome (next object)) → IsSome (at_object vars graph o next)
 at_object-IsSome vars graph None next goes = refl

@@ -61,7 +61,7 @@ finished schema (first ∷ second ∷ others) turns results built runs = absurd 
 pub report_of : (text : List ℕ) (input : TryInput) (results : List (List TxnResult)) (commits : ℕ) (output : List ℕ) → Says text input → RunsJob input.schema input.job.clients results
     → commits ≡ count_txns input.job.clients → output ≡ report input.job results (plain_tail commits) → IsReportOf text output
 report_of text input results commits output says runs counted printed =
-    let done : IsFinished input results = finished input.schema input.job.clients input.job.turns results says.built.clients runs in
+    let done : IsFinished input results = finished input.schema input.job.clients input.job.turns results says.job.clients runs in
     record {
       input = input;
       says = says;
@@ -89,7 +89,7 @@ some_is_not_none (Some x) some none = cc
 
 int_members : (types : List TypeDef) → AreBuiltTypes types → HasIntMembers (record { types = types })
 int_members [] built = absurd built
-int_members (only ∷ []) built = (built.ints, tt)
+int_members (only ∷ []) built = (built, tt)
 int_members (first ∷ second ∷ others) built = absurd built
 
 runs : (schema : Schema) (clients : List JobClient) → HasIntMembers schema → AreBuiltClients clients → CannotRun schema clients → ⊥
@@ -98,7 +98,7 @@ runs schema (only ∷ []) ints built stuck = some_is_not_none (outcomes_from sch
 runs schema (first ∷ second ∷ others) ints built stuck = built
 
 pub can_run : (text : List ℕ) (input : TryInput) → Says text input → CannotRun input.schema input.job.clients → ⊥
-can_run text input says stuck = runs input.schema input.job.clients (int_members input.schema.types says.built.types) says.built.clients stuck
+can_run text input says stuck = runs input.schema input.job.clients (int_members input.schema.types says.types) says.job.clients stuck
 
 -- ---- loops and matches of the code
 

@@ -11,6 +11,7 @@ use Rattle.ostore_job_text.specs.declared.results.Tail.{Tail}
 use Rattle.ostore_job_text.specs.declared.results.TxnResult.{TxnResult}
 use Rattle.ostore_job_text.specs.Report.{report}
 use Rattle.ostore_job_text.specs.Results.{script_of, committed_of, EndedAtOnce}
+use Rattle.ostore_job_text.specs.Refusals.{refusal_line}
 use Rattle.ostore_job_text.specs.Spelling.{Says, IsRefused}
 use Rattle.ostore_cli.specs.Commands.{IsRow}
 use Rattle.ostore_cli.specs.Streams.{IsWholeRead, AppendsFront}
@@ -53,6 +54,13 @@ pub record IsReportFrom (source : End) (output : List ℕ) : Type 0 where
   pub had : HasText source.bytes text
   pub report : IsReportOf text output
 
+-- the line is that of a text which the source had and which is refused
+pub record IsRefusalOf (source : End) (line : List ℕ) : Type 0 where
+  pub text : List ℕ
+  pub had : HasText source.bytes text
+  pub refused : IsRefused text
+  pub named : line ≡ refusal_line text
+
 -- ---- what was printed
 
 -- all of the output was printed, and no write failed
@@ -81,6 +89,12 @@ pub record PrintsReportFront (source sink sink_after : End) : Type 0 where
   pub report : IsReportFrom source output
   pub printed : PrintsFront output sink sink_after
 
+-- the line of the refusal was printed, as far as the sink took it
+pub record PrintsRefusal (source sink sink_after : End) : Type 0 where
+  pub line : List ℕ
+  pub refusal : IsRefusalOf source line
+  pub printed : PrintsLine line sink sink_after
+
 -- ---- the statuses
 
 abbrev pub IsStatus : ℕ → Type 0
@@ -105,7 +119,7 @@ pub record KeepsPromise (words : List (List ℕ)) (source source_after sink sink
   -- exactly by the text, where the source tells and doesn't fail, and memory is there
   pub text : status ≡ 3 → IfSome source.bytes IsRefused
   pub text_only : IsRow words → IfSome source.bytes (λ text. IsRefused text → (status ≡ 3) ⊎ (status ≡ 6) ⊎ (status ≡ 8))
-  pub text_line : status ≡ 3 → PrintsLine (codes "text refused\n") sink sink_after
+  pub text_line : status ≡ 3 → PrintsRefusal source sink sink_after
   -- exactly where the source's count of faults rose
   pub source_fault : status ≡ 6 → Rose source.faults source_after.faults
   pub source_only : status ≢ 6 → source_after.faults ≡ source.faults

@@ -2,12 +2,14 @@
 
 ghost use Rattle.std.specs.Prelude.{◌≡◌};
 ghost use Rattle.ostore_cli.specs.Promise.{end_of};
-ghost use Rattle.ostore_cli.specs.Answers.{IsAnswerTo, IsPrintOf, IsReportPrint, IsLinePrint};
+ghost use Rattle.ostore_cli.specs.Answers.{IsAnswerTo, IsTextAnswer, IsFaultAnswer, IsPrintOf, IsReportPrint, IsLinePrint};
 
 use crate::streams::{InputFault, read_text, write_whole};
-use crate::trying::{TryFault, try_text};
+use crate::trying::try_text;
 use crate::words::Words;
 use ostore_base::{Sink, Source, Text};
+use ostore_job_text::{TryFault, print_schema_fault};
+use ostore_schema_layout::SchemaFault;
 use std::alloc::Global;
 
 /// What is to be printed.
@@ -16,6 +18,8 @@ pub enum Answer {
     Report(Text),
     WordsRefused,
     TextRefused,
+    /// The line that names the schema's fault.
+    SchemaFault(Text),
     SourceFault,
     OutOfMemory,
 }
@@ -30,11 +34,29 @@ pub(crate) fn answer_to<S: Source>(alloc: Global, words: &Words, source: &mut S)
     match read_text(alloc, source) {
         Err(InputFault::SourceFailed) => Answer::SourceFault,
         Err(InputFault::OutOfMemory) => Answer::OutOfMemory,
-        Ok(text) => match try_text(alloc, &text) {
-            Ok(report) => Answer::Report(report),
-            Err(TryFault::Refused) => Answer::TextRefused,
-            Err(TryFault::OutOfMemory) => Answer::OutOfMemory,
-        },
+        Ok(text) => answer_text(alloc, &text),
+    }
+}
+
+/// What the text of `try` gets for an answer.
+fn answer_text(alloc: Global, text: &[u8]) -> Answer
+    ensures { IsTextAnswer text.now result }
+{
+    match try_text(alloc, text) {
+        Ok(report) => Answer::Report(report),
+        Err(TryFault::Refused) => Answer::TextRefused,
+        Err(TryFault::Schema(fault)) => answer_fault(alloc, &fault),
+        Err(TryFault::OutOfMemory) => Answer::OutOfMemory,
+    }
+}
+
+/// The line of a schema's fault.
+fn answer_fault(alloc: Global, fault: &SchemaFault) -> Answer
+    ensures { IsFaultAnswer fault.now result }
+{
+    match print_schema_fault(alloc, fault) {
+        Ok(line) => Answer::SchemaFault(line),
+        Err(_) => Answer::OutOfMemory,
     }
 }
 
@@ -47,6 +69,7 @@ pub(crate) fn print_answer<K: Sink>(sink: &mut K, answer: Answer) -> u8
         Answer::Report(report) => print_report_text(sink, report.bytes()),
         Answer::WordsRefused => print_line(sink, b"words refused\n", 2),
         Answer::TextRefused => print_line(sink, b"text refused\n", 3),
+        Answer::SchemaFault(line) => print_line(sink, line.bytes(), 3),
         Answer::SourceFault => print_line(sink, b"source fault\n", 6),
         Answer::OutOfMemory => print_line(sink, b"out of memory\n", 8),
     }

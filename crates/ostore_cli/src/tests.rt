@@ -53,6 +53,25 @@ fn refused_texts(rt: HostRuntime) -> Result<(), Fail> {
 }
 
 #[test]
+fn schemas_at_fault(rt: HostRuntime) -> Result<(), Fail> {
+    for (text, line) in [
+        ("type A\nx ref B\n", "schema fault 4 UnknownType at 13\n"),
+        (
+            "type A\nx ref B\njob\nclient a\nread\n",
+            "schema fault 4 UnknownType at 13\n",
+        ),
+        (
+            "type A\ntype A\njob\n",
+            "schema fault 2 DuplicateType at 12\n",
+        ),
+        ("type\njob\n", "schema fault 1 Syntax at 4\n"),
+    ] {
+        expect_run(&rt, rt.alloc(), text, 3, line)?;
+    }
+    Ok(())
+}
+
+#[test]
 fn refused_words(rt: HostRuntime) -> Result<(), Fail> {
     for words in [&[][..], &["run"], &["try", "try"], &["tries"]] {
         let (status, printed) = run_words(rt.alloc(), words, FIRST)?;

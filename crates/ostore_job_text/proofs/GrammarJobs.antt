@@ -8,11 +8,10 @@ use Rattle.ostore_job_text.specs.declared.job.Job.{Job}
 use Rattle.ostore_job_text.specs.declared.job.JobClient.{JobClient}
 use Rattle.ostore_job_text.specs.declared.job.JobTurn.{JobTurn}
 use Rattle.ostore_job_text.specs.declared.job.TheConstants.{DEFAULT_CACHE, DEFAULT_FRAMES}
-use Rattle.ostore_job_text.specs.Words.{is_identifier}
 use Rattle.ostore_job_text.specs.Spelling.{client_lines, job_lines, IsBuiltClient, AreBuiltClients}
-use Rattle.ostore_job_text.specs.WordReading.{◌>>=◌}
+use Rattle.ostore_text_words.specs.Words.{◌>>=◌, is_identifier}
 use Rattle.ostore_job_text.specs.Reading.{named_at, txns_at, client_of, client_at, job_at}
-use Rattle.ostore_job_text.proofs.WordLaws.{bind_some}
+use Rattle.ostore_text_words.proofs.WordLaws.{bind_some}
 use Rattle.ostore_job_text.proofs.GrammarSteps.{checked_some, both_true, cons_is, bytes_are, bytes_same}
 use Rattle.ostore_job_text.proofs.GrammarCommands.{txns_taken, txns_again}
 

@@ -1,12 +1,10 @@
--- Reading what `try` reads: a second function on the words of each line, which gives the input that
--- they spell, or nothing. The code is tied to it, and laws tie it to the grammar.
-use Rattle.std.specs.Prelude.{◌≡◌, ◌<◌, ◌≤◌, ℕ, Bool, true, false, ◌&&◌, not, List, [], ◌∷◌, length, map, drop, Option, Some, None, Result, Ok, Err, codes, nat_le, if◌then◌else◌}
-use Rattle.std.specs.Borrow.{Bor}
-use Rattle.std.specs.Global.{Vec}
+-- Reading a job: a second function on the words of each line, which gives the job that they spell, or
+-- nothing. The code is tied to it, and laws tie it to the grammar.
+use Rattle.std.specs.Prelude.{◌≡◌, ◌<◌, ◌≤◌, ℕ, Bool, true, false, ◌&&◌, List, [], ◌∷◌, length, map, drop, Option, Some, None, Result, Ok, Err, codes, if◌then◌else◌}
 use Rattle.std.specs.Str.{bytes_eq}
-use Rattle.ostore_schema_layout.specs.declared.schema.Schema.{Schema}
-use Rattle.ostore_schema_layout.specs.declared.schema.MemberDef.{MemberDef}
-use Rattle.ostore_schema_layout.specs.declared.schema.MemberKind.TheVariants as kinds
+use Rattle.ostore_text_words.specs.declared.lines.Word.{Word}
+use Rattle.ostore_text_words.specs.declared.lines.Line.{Line}
+use Rattle.ostore_text_words.specs.Words.{◌>>=◌, is_identifier, int_at}
 use Rattle.ostore_graph_model.specs.declared.commands.Command.{Command}
 use Rattle.ostore_graph_model.specs.declared.commands.Command.TheVariants.{New, Get, Set}
 use Rattle.ostore_graph_model.specs.declared.commands.Operand.TheVariants as operands
@@ -14,11 +12,9 @@ use Rattle.ostore_graph_model.specs.declared.commands.Txn.{Txn}
 use Rattle.ostore_job_text.specs.declared.job.Job.{Job}
 use Rattle.ostore_job_text.specs.declared.job.JobClient.{JobClient}
 use Rattle.ostore_job_text.specs.declared.job.TheConstants.{DEFAULT_TRIES, DEFAULT_CACHE, DEFAULT_FRAMES}
-use Rattle.ostore_job_text.specs.declared.input.TryInput.{TryInput}
-use Rattle.ostore_job_text.specs.Words.{is_identifier}
 use Rattle.ostore_job_text.specs.declared.reading.fault.ReadFault.{ReadFault}
 use Rattle.ostore_job_text.specs.declared.reading.fault.ReadFault.TheVariants as faults
-use Rattle.ostore_job_text.specs.WordReading.{◌>>=◌, variable_at, place_at, int_at, segment_at}
+use Rattle.ostore_job_text.specs.WordReading.{variable_at, place_at, segment_at}
 
 -- What a function gave, seen by view, is what reading gives, unless memory ran out.
 abbrev pub Fails : {Y : Type 0} → ReadFault → Option Y → Type 0
@@ -29,12 +25,12 @@ abbrev pub Gives : {X Y : Type 0} → (X → Y) → Result X ReadFault → Optio
 Gives view (Ok x) read = read ≡ Some (view x)
 Gives view (Err fault) read = Fails fault read
 
--- words, and lines of words, as they lie in memory
-abbrev pub seen_words : List (Bor (List ℕ)) → List (List ℕ)
-seen_words words = map (λ word. word.now) words
+-- the words of a line, and of lines, as they lie in memory
+abbrev pub seen_words : List Word → List (List ℕ)
+seen_words words = map (λ word. word.bytes.now) words
 
-abbrev pub seen_lines : List (Vec (Bor (List ℕ))) → List (List (List ℕ))
-seen_lines lines = map (λ line. map (λ word. word.now) line.items) lines
+abbrev pub seen_lines : List Line → List (List (List ℕ))
+seen_lines lines = map (λ line. seen_words line.words) lines
 
 -- the value where the test holds
 abbrev pub checked : {A : Type 0} → Bool → Option A → Option A
@@ -101,7 +97,7 @@ abbrev pub after_commands : List Command → Option (List Command × List Txn) �
 after_commands commands later = later >>= λ others. Some (commands, others.1)
 
 -- The commands of a transaction, and how many lines they are with its last line, are what reading gives.
-abbrev pub GivesCommands : List (Vec (Bor (List ℕ))) → Result (List Command × ℕ) ReadFault → Type 0
+abbrev pub GivesCommands : List Line → Result (List Command × ℕ) ReadFault → Type 0
 GivesCommands lines (Ok found) =
     (txns_at (seen_lines lines) true ≡ after_commands found.0 (txns_at (seen_lines (drop found.1 lines)) false))
     × (found.1 ≤ length lines)
@@ -111,7 +107,7 @@ GivesCommands lines (Err fault) = Fails fault (txns_at (seen_lines lines) true)
 abbrev pub before_txns : Txn → Option (List Command × List Txn) → Option (List Command × List Txn)
 before_txns txn later = later >>= λ others. Some ([], txn ∷ others.1)
 
-abbrev pub GivesTxn : List (Vec (Bor (List ℕ))) → Result (Txn × ℕ) ReadFault → Type 0
+abbrev pub GivesTxn : List Line → Result (Txn × ℕ) ReadFault → Type 0
 GivesTxn lines (Ok found) =
     (txns_at (seen_lines lines) false ≡ before_txns found.0 (txns_at (seen_lines (drop found.1 lines)) false))
     × (0 < found.1) × (found.1 ≤ length lines)
@@ -142,59 +138,3 @@ job_at [] = Some (record { clients = []; turns = [] })
 job_at (line ∷ lines) = do
   client ← client_at line lines
   Some (record { clients = client ∷ []; turns = [] })
-
--- ---- the schema
-
-abbrev pub int_member : List ℕ → MemberDef
-int_member name = record { name = name; kind = kinds.Int; inverse = None }
-
--- the int member that a line's words spell
-unfoldable pub member_at : List (List ℕ) → Option MemberDef
-member_at [] = None
-member_at (name ∷ []) = None
-member_at (name ∷ kind ∷ []) = checked (is_identifier name && bytes_eq kind (codes "int")) (Some (int_member name))
-member_at (first ∷ second ∷ third ∷ others) = None
-
-unfoldable pub members_at : List (List (List ℕ)) → Option (List MemberDef)
-members_at [] = Some []
-members_at (line ∷ lines) = do
-  member ← member_at line
-  members ← members_at lines
-  Some (member ∷ members)
-
--- none of the members has this name
-abbrev pub names_none : List ℕ → List MemberDef → Bool
-names_none name [] = true
-names_none name (member ∷ members) = not (bytes_eq name member.name) && names_none name members
-
--- no two of the members have one name
-abbrev pub have_own_names : List MemberDef → Bool
-have_own_names [] = true
-have_own_names (member ∷ members) = names_none member.name members && have_own_names members
-
--- one type with at most 32 members
-unfoldable pub schema_at : List (List (List ℕ)) → Option Schema
-schema_at [] = None
-schema_at (line ∷ lines) = do
-  name ← named_at (codes "type") line
-  members ← members_at lines
-  checked (nat_le (length members) 32 && have_own_names members) (Some (record { types = record { name = name; members = members } ∷ [] }))
-
--- ---- the whole text
-
--- the lines before the first line `job`
-unfoldable pub schema_part : List (List (List ℕ)) → List (List (List ℕ))
-schema_part [] = []
-schema_part (line ∷ lines) = if is_only (codes "job") line then [] else line ∷ schema_part lines
-
--- the lines after it
-unfoldable pub job_part : List (List (List ℕ)) → List (List (List ℕ))
-job_part [] = []
-job_part (line ∷ lines) = if is_only (codes "job") line then lines else job_part lines
-
--- the input that the lines spell
-unfoldable pub input_at : List (List (List ℕ)) → Option TryInput
-input_at lines = do
-  schema ← schema_at (schema_part lines)
-  job ← job_at (job_part lines)
-  Some (record { schema = schema; job = job })

@@ -1,9 +1,10 @@
 -- The report of a run: the bytes that are printed for a job, what became of its transactions, and the
 -- last lines. Every line ends with byte 10.
-use Rattle.std.specs.Prelude.{if◌then◌else◌, ℕ, ◌*◌, ◌/◌, ◌%◌, ◌^◌, false, ◌||◌, ◌==◌, nat_lt, zero, suc, List, [], ◌∷◌, ◌++◌, codes, decimal, Some, None}
+use Rattle.std.specs.Prelude.{if◌then◌else◌, ℕ, ◌*◌, ◌/◌, ◌%◌, ◌^◌, false, nat_lt, zero, suc, List, [], ◌∷◌, ◌++◌, codes, decimal, Some, None}
 use Rattle.std.specs.declared.option.Option.{Option}
 use Rattle.std.specs.Fmt.{signed_decimal, digit_glyph}
 use Rattle.std.specs.List.{flat_map, zip, enumerate_from, join_by}
+use Rattle.ostore_text_words.specs.Words.{quoted}
 use Rattle.ostore_graph_model.specs.declared.values.Name.{Name}
 use Rattle.ostore_graph_model.specs.declared.values.Listed.{Listed}
 use Rattle.ostore_graph_model.specs.declared.values.Value.{Value}
@@ -34,14 +35,6 @@ listed_text listed = (if listed.dead then codes "!" else []) ++ name_text listed
 abbrev pub names_text : List Listed → List ℕ
 names_text [] = codes "empty"
 names_text (first ∷ others) = join_by listed_text (codes " ") (first ∷ others)
-
--- a quote and a backslash have a backslash before them
-abbrev pub escaped : ℕ → List ℕ
-escaped byte = (if byte == 34 || byte == 92 then codes "\\" else []) ++ byte ∷ []
-
--- a text between quotes
-abbrev pub quoted : List ℕ → List ℕ
-quoted text = codes "\"" ++ flat_map escaped text ++ codes "\""
 
 abbrev pub value_text : Value → List ℕ
 value_text (values.Int value) = signed_decimal value

@@ -1,14 +1,20 @@
--- The grammar of what `try` reads today: how a schema and a job are spelled, as the words of each
--- line, and which of them are built. It is apart from the reader: a text says an input where its
--- lines are that input's.
-use Rattle.std.specs.Prelude.{◌≡◌, ◌⊎◌, ℕ, ◌≤◌, true, false, IsTrue, List, [], ◌∷◌, ◌++◌, length, map, codes, decimal, FitsSigned, None}
+-- The grammar of what `try` reads today: how a job is spelled, as the words of each line, and which
+-- schemas and jobs are built. It is apart from the reader: a text says an input where its lines are that
+-- input's.
+use Rattle.std.specs.Prelude.{◌≡◌, ℕ, ◌≤◌, true, false, IsTrue, if◌then◌else◌, nat_le, List, [], ◌∷◌, ◌++◌, length, map, take, drop, codes, decimal, FitsSigned, Option, Some, None, Result, Ok, Err}
 use Rattle.std.specs.Fmt.{signed_decimal}
 use Rattle.std.specs.Int.{w64}
 use Rattle.std.specs.List.{flat_map, AllByRecursion}
+use Rattle.std.specs.Str.{IsUtf8}
+use Rattle.ostore_text_words.specs.Words.{is_identifier}
+use Rattle.ostore_text_words.specs.Lines.{word_lines, parting_of}
 use Rattle.ostore_schema_layout.specs.declared.schema.Schema.{Schema}
 use Rattle.ostore_schema_layout.specs.declared.schema.TypeDef.{TypeDef}
 use Rattle.ostore_schema_layout.specs.declared.schema.MemberDef.{MemberDef}
 use Rattle.ostore_schema_layout.specs.declared.schema.MemberKind.TheVariants as kinds
+use Rattle.ostore_schema_layout.specs.declared.fault.SchemaFault.{SchemaFault}
+use Rattle.ostore_schema_layout.specs.Spelling.{Spells}
+use Rattle.ostore_schema_layout.specs.Parsing.{parsed}
 use Rattle.ostore_graph_model.specs.declared.commands.Command.{Command}
 use Rattle.ostore_graph_model.specs.declared.commands.Command.TheVariants.{New, Get, Set}
 use Rattle.ostore_graph_model.specs.declared.commands.Operand.TheVariants as operands
@@ -17,41 +23,17 @@ use Rattle.ostore_job_text.specs.declared.job.Job.{Job}
 use Rattle.ostore_job_text.specs.declared.job.JobClient.{JobClient}
 use Rattle.ostore_job_text.specs.declared.job.TheConstants.{DEFAULT_TRIES, DEFAULT_CACHE, DEFAULT_FRAMES}
 use Rattle.ostore_job_text.specs.declared.input.TryInput.{TryInput}
-use Rattle.ostore_job_text.specs.Words.{IsText, is_identifier, word_lines}
+use Rattle.ostore_job_text.specs.declared.reading.input.TheConstants.{LONGEST_TEXT}
 
--- ---- the schema
+-- ---- the schemas that are built
 
--- the words of an int member
-abbrev pub member_words : MemberDef → List (List ℕ)
-member_words member = member.name ∷ codes "int" ∷ []
+abbrev pub IsIntMember : MemberDef → Type 0
+IsIntMember member = member.kind ≡ kinds.Int
 
-abbrev pub type_lines : TypeDef → List (List (List ℕ))
-type_lines type_def = (codes "type" ∷ type_def.name ∷ []) ∷ map member_words type_def.members
-
-abbrev pub schema_lines : Schema → List (List (List ℕ))
-schema_lines schema = flat_map type_lines schema.types
-
--- the member is a plain int
-pub record IsIntMember (member : MemberDef) : Type 0 where
-  pub name : IsTrue (is_identifier member.name)
-  pub kind : member.kind ≡ kinds.Int
-  pub inverse : member.inverse ≡ None
-
--- no member has the name of an earlier one
-abbrev pub HaveOwnNames : List MemberDef → Type 0
-HaveOwnNames [] = Unit {0}
-HaveOwnNames (member ∷ members) = AllByRecursion (λ other. member.name ≡ other.name → ⊥) members × HaveOwnNames members
-
-pub record IsBuiltType (type_def : TypeDef) : Type 0 where
-  pub name : IsTrue (is_identifier type_def.name)
-  pub few : length type_def.members ≤ 32
-  pub ints : AllByRecursion IsIntMember type_def.members
-  pub own_names : HaveOwnNames type_def.members
-
--- the schema is one type
+-- the schema is one type, with int members alone
 abbrev pub AreBuiltTypes : List TypeDef → Type 0
 AreBuiltTypes [] = ⊥
-AreBuiltTypes (only ∷ []) = IsBuiltType only
+AreBuiltTypes (only ∷ []) = AllByRecursion IsIntMember only.members
 AreBuiltTypes (first ∷ second ∷ others) = ⊥
 
 -- ---- the job
@@ -109,25 +91,43 @@ AreBuiltClients (first ∷ second ∷ others) = ⊥
 
 -- ---- the whole text
 
--- the input is of the forms that are built
-pub record IsBuilt (input : TryInput) : Type 0 where
-  pub types : AreBuiltTypes input.schema.types
-  pub clients : AreBuiltClients input.job.clients
-  pub no_turns : input.job.turns ≡ []
+-- the longest text that is read, in bytes
+abbrev pub longest_text : ℕ
+longest_text = LONGEST_TEXT
 
--- the lines of a schema, the line `job` and the lines of a job; where the job is empty, the lines of
--- the schema alone will do
-abbrev pub AreLinesOf : List (List (List ℕ)) → TryInput → Type 0
-AreLinesOf found input =
-    (found ≡ schema_lines input.schema ++ (codes "job" ∷ []) ∷ job_lines input.job)
-    ⊎ ((found ≡ schema_lines input.schema) × (input.job.clients ≡ []))
+-- the part before the first line `job`, and the part behind that line; without one, all and nothing
+abbrev pub parts_at : Option (ℕ × ℕ) → List ℕ → List ℕ × List ℕ
+parts_at None text = (text, [])
+parts_at (Some line) text = (take line.0 text, drop line.1 text)
 
--- the text spells this input
+abbrev pub schema_part : List ℕ → List ℕ
+schema_part text = (parts_at (parting_of (codes "job") text) text).0
+
+abbrev pub job_part : List ℕ → List ℕ
+job_part text = (parts_at (parting_of (codes "job") text) text).1
+
+-- the text spells this job, of the forms that are built
+pub record SaysJob (text : List ℕ) (job : Job) : Type 0 where
+  pub utf8 : IsUtf8 text
+  pub lines : word_lines text ≡ job_lines job
+  pub clients : AreBuiltClients job.clients
+  pub no_turns : job.turns ≡ []
+
+-- the text spells this input, of the forms that are built
 pub record Says (text : List ℕ) (input : TryInput) : Type 0 where
-  pub bytes : IsText text
-  pub built : IsBuilt input
-  pub lines : AreLinesOf (word_lines text) input
+  pub short : length text ≤ longest_text
+  pub schema : Spells (schema_part text) input.schema
+  pub types : AreBuiltTypes input.schema.types
+  pub job : SaysJob (job_part text) input.job
 
 -- the text spells no input that is built
 abbrev pub IsRefused : List ℕ → Type 0
 IsRefused text = (input : TryInput) → Says text input → ⊥
+
+abbrev pub fault_parsed : Result Schema SchemaFault → Option SchemaFault
+fault_parsed (Ok schema) = None
+fault_parsed (Err fault) = Some fault
+
+-- the fault of the schema's part, which is judged where the whole text is short enough
+abbrev pub schema_fault : List ℕ → Option SchemaFault
+schema_fault text = if nat_le (length text) longest_text then fault_parsed (parsed (schema_part text)) else None

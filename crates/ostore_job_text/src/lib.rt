@@ -11,6 +11,6 @@ pub use input::TryInput;
 pub use job::{
     DEFAULT_CACHE, DEFAULT_FRAMES, DEFAULT_TRIES, Job, JobClient, JobClients, JobTurn, JobTurns,
 };
-pub use reading::{ReadFault, read_try_input};
-pub use report::print_report;
+pub use reading::{LONGEST_TEXT, TryFault, read_try_input};
+pub use report::{print_report, print_schema_fault};
 pub use results::{Cause, ClientResults, Results, Tail, TxnResult};

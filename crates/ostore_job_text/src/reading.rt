@@ -7,10 +7,8 @@ mod jobs;
 mod lines;
 mod names;
 mod numbers;
-mod schema;
 #[cfg(test)]
 mod tests;
-mod words;
 
-pub use fault::ReadFault;
-pub use input::read_try_input;
+pub use fault::TryFault;
+pub use input::{LONGEST_TEXT, read_try_input};

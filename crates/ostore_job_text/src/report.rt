@@ -5,6 +5,7 @@ ghost use Rattle.ostore_job_text.specs.Report.{result_text, client_text, told_li
 
 mod outcomes;
 mod pieces;
+mod refusal;
 mod replies;
 #[cfg(test)]
 mod tests;
@@ -14,6 +15,7 @@ use crate::results::{ClientResults, Results, Tail, TxnResult};
 use ostore_base::{OutOfMemory, Text};
 use outcomes::{push_outcome, push_replies_told};
 use pieces::push_number;
+pub use refusal::print_schema_fault;
 use std::alloc::Global;
 
 /// The report of a run: what became of each transaction, client by client, and the last lines. The

@@ -3,10 +3,11 @@ ghost use Rattle.ostore_cli.specs.Streams.{HasRead, IsWholeRead, HasInputCause, 
 ghost use Rattle.ostore_cli.specs.declared.streams.reading.InputFault.TheVariants.{OutOfMemory};
 
 use ostore_base::Source;
+use ostore_job_text::LONGEST_TEXT;
 use std::alloc::{AllocError, Global};
 
 /// How many bytes of a source are read at most: one more than the longest text.
-pub const LONGEST_READ: usize = 4194305;
+pub const LONGEST_READ: usize = LONGEST_TEXT + 1;
 
 /// How many bytes are asked for at a time.
 const PIECE: usize = 8192;

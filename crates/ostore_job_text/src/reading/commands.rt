@@ -4,10 +4,11 @@ ghost use Rattle.std.specs.Prelude.{◌≡◌};
 ghost use Rattle.ostore_job_text.specs.Reading.{Gives, seen_words, new_at, get_at, set_at, command_at};
 
 use crate::reading::fault::ReadFault;
-use crate::reading::names::{is_identifier, read_place, read_variable};
-use crate::reading::numbers::{read_int, read_segment};
+use crate::reading::names::{read_place, read_variable};
+use crate::reading::numbers::read_segment;
 use ostore_base::Text;
 use ostore_graph_model::{Command, Operand};
+use ostore_text_words::{Word, is_identifier, read_int};
 use std::alloc::Global;
 
 /// `new $to TYPE SEGMENT`.
@@ -55,27 +56,27 @@ fn read_set(alloc: Global, place: &[u8], value: &[u8]) -> Result<Command, ReadFa
 
 /// The command that a line spells.
 #[tactic(auto, unfolding(crate::specs::Reading::command_at))]
-pub(crate) fn read_command(alloc: Global, line: &[&[u8]]) -> Result<Command, ReadFault>
+pub(crate) fn read_command(alloc: Global, line: &[Word]) -> Result<Command, ReadFault>
     ensures { Gives (λ command. command) result (command_at (seen_words line.now)) }
 {
     match line {
         [verb, place] => {
-            if *verb != b"get".as_slice() {
+            if verb.bytes != b"get".as_slice() {
                 return Err(ReadFault::Refused);
             }
-            read_get(alloc, place)
+            read_get(alloc, place.bytes)
         }
         [verb, place, value] => {
-            if *verb != b"set".as_slice() {
+            if verb.bytes != b"set".as_slice() {
                 return Err(ReadFault::Refused);
             }
-            read_set(alloc, place, value)
+            read_set(alloc, place.bytes, value.bytes)
         }
         [verb, to, ty, segment] => {
-            if *verb != b"new".as_slice() {
+            if verb.bytes != b"new".as_slice() {
                 return Err(ReadFault::Refused);
             }
-            read_new(alloc, to, ty, segment)
+            read_new(alloc, to.bytes, ty.bytes, segment.bytes)
         }
         _ => Err(ReadFault::Refused),
     }

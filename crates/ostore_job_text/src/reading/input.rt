@@ -1,56 +1,103 @@
 //! The whole text.
 
-ghost use Rattle.std.specs.Prelude.{◌≡◌, IfOk, Err};
+ghost use Rattle.std.specs.Prelude.{◌≡◌, ◌↔◌, IsTrue, IfOk, Err, None, Some};
+ghost use Rattle.std.specs.List.{AllByRecursion};
+ghost use Rattle.ostore_schema_layout.specs.declared.fault.SchemaFault.{SchemaFault};
+ghost use Rattle.ostore_job_text.specs.declared.job.Job.{Job};
 ghost use Rattle.ostore_job_text.specs.declared.input.TryInput.{TryInput};
-ghost use Rattle.ostore_job_text.specs.Spelling.{Says, IsRefused};
-ghost use Rattle.ostore_job_text.specs.Reading.{Gives, seen_lines, schema_part, job_part, input_at};
+ghost use Rattle.ostore_job_text.specs.Spelling.{Says, SaysJob, IsRefused, AreBuiltTypes, IsIntMember, schema_part, job_part, schema_fault};
 
 use crate::input::TryInput;
-use crate::reading::fault::ReadFault;
+use crate::job::Job;
+use crate::reading::fault::{ReadFault, TryFault};
 use crate::reading::jobs::read_job;
-use crate::reading::lines::is_only;
-use crate::reading::schema::read_schema;
-use crate::reading::words::{is_text, word_lines};
+use ostore_schema_layout::{MemberDef, MemberKind, Schema, SchemaFault, TypeDef, parse_schema};
+use ostore_text_words::{find_parting, read_lines, utf8_fault};
 use std::alloc::Global;
 
-/// The lines before the first line `job`, and those after it.
-fn parts_of<'a, 'b>(lines: &'a [Vec<&'b [u8]>]) -> (&'a [Vec<&'b [u8]>], &'a [Vec<&'b [u8]>])
-    ensures schema { seen_lines result.0.now ≡ schema_part (seen_lines lines.now) }
-    ensures job { seen_lines result.1.now ≡ job_part (seen_lines lines.now) }
+/// The longest text that is read, in bytes.
+pub const LONGEST_TEXT: usize = 4_194_304;
+
+/// The part before the first line `job`, and the part behind it.
+fn parts_of(text: &[u8]) -> (&[u8], &[u8])
+    ensures schema { result.0.now ≡ schema_part text.now }
+    ensures job { result.1.now ≡ job_part text.now }
 {
-    for (i, line) in lines.iter().enumerate() {
-        if is_only(line, b"job") {
-            return (&lines[..i], &lines[i + 1..]);
-        }
+    match find_parting(text, b"job") {
+        None => (text, &[]),
+        Some((start, next)) => (
+            text.get(..start).unwrap_or(text),
+            text.get(next..).unwrap_or(&[]),
+        ),
     }
-    (lines, &[])
 }
 
-/// The input that the lines spell.
-#[tactic(auto, unfolding(crate::specs::Reading::input_at))]
-fn read_input(alloc: Global, lines: &[Vec<&[u8]>]) -> Result<TryInput, ReadFault>
-    ensures { Gives (λ input. input) result (input_at (seen_lines lines.now)) }
+/// Whether the member is an int.
+fn is_int(member: &MemberDef) -> bool
+    ensures { IsTrue result ↔ IsIntMember member.now }
 {
-    let (schema_lines, job_lines) = parts_of(lines);
-    let schema = read_schema(alloc, schema_lines)?;
-    let job = read_job(alloc, job_lines)?;
-    Ok(TryInput { schema, job })
+    matches!(member.kind, MemberKind::Int)
 }
 
-/// Reads a text for `try`: a schema of one type, and the job of at most one client.
-pub fn read_try_input(alloc: Global, text: &[u8]) -> Result<TryInput, ReadFault>
+/// Whether all members are ints.
+fn are_ints(members: &[MemberDef]) -> bool
+    ensures { IsTrue result ↔ AllByRecursion IsIntMember members.now }
+{
+    members.iter().all(is_int)
+}
+
+/// Whether the types are of the forms that are built: one type, with int members alone.
+fn are_built(types: &[TypeDef]) -> bool
+    ensures { IsTrue result ↔ AreBuiltTypes types.now }
+{
+    match types {
+        [only] => are_ints(only.members.items()),
+        _ => false,
+    }
+}
+
+/// The job that a text spells.
+fn read_job_part(alloc: Global, text: &[u8]) -> Result<Job, ReadFault>
+    ensures read { IfOk result (λ job. SaysJob text.now job) }
+    ensures only { IfOk result (λ job. (other : Job) → SaysJob text.now other → other ≡ job) }
+    ensures refused { result ≡ Err ReadFault.Refused → (job : Job) → SaysJob text.now job → ⊥ }
+{
+    if utf8_fault(text).is_some() {
+        return Err(ReadFault::Refused);
+    }
+    let lines = read_lines(alloc, text)?;
+    read_job(alloc, lines.items())
+}
+
+/// Reads a text for `try`: a schema of one type with int members, and the job of at most one client.
+/// A fault of the schema's part comes before anything that is refused, but for a text that is too long.
+pub fn read_try_input(alloc: Global, text: &[u8]) -> Result<TryInput, TryFault>
     // What is read is what the text says.
     ensures read { IfOk result (λ input. Says text.now input) }
     // The text says nothing else.
     ensures only { IfOk result (λ input. (other : TryInput) → Says text.now other → other ≡ input) }
-    // What is refused says nothing.
-    ensures refused { result ≡ Err ReadFault.Refused → IsRefused text.now }
+    // What is refused says nothing, and its schema's part has no fault.
+    ensures refused { result ≡ Err TryFault.Refused → IsRefused text.now × (schema_fault text.now ≡ None) }
+    // A schema's fault is that of the text, which says nothing.
+    ensures schema { (fault : SchemaFault) → result ≡ Err (TryFault.Schema fault) → IsRefused text.now × (schema_fault text.now ≡ Some fault) }
 {
-    if !is_text(text) {
-        return Err(ReadFault::Refused);
+    if text.len() > LONGEST_TEXT {
+        return Err(TryFault::Refused);
     }
-    let lines = word_lines(alloc, text)?;
-    read_input(alloc, &lines)
+    let (schema_part, job_part) = parts_of(text);
+    let schema = match parse_schema(alloc, schema_part) {
+        Ok(schema) => schema,
+        Err(SchemaFault::OutOfMemory) => return Err(TryFault::OutOfMemory),
+        Err(fault) => return Err(TryFault::Schema(fault)),
+    };
+    if !are_built(schema.types.items()) {
+        return Err(TryFault::Refused);
+    }
+    match read_job_part(alloc, job_part) {
+        Ok(job) => Ok(TryInput { schema, job }),
+        Err(ReadFault::Refused) => Err(TryFault::Refused),
+        Err(ReadFault::OutOfMemory) => Err(TryFault::OutOfMemory),
+    }
 }
 
 #[cfg(test)]

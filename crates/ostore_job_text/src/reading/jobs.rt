@@ -9,28 +9,29 @@ use crate::reading::fault::ReadFault;
 use crate::reading::lines::{is_only, read_named};
 use ostore_base::{ListOf, Text};
 use ostore_graph_model::{Commands, Txn, Txns};
+use ostore_text_words::{Line, Word};
 use std::alloc::Global;
 
 /// The commands up to the line `commit`, and how many lines they are with it.
-fn read_commands(alloc: Global, lines: &[Vec<&[u8]>]) -> Result<(Commands, usize), ReadFault>
+fn read_commands(alloc: Global, lines: &[Line]) -> Result<(Commands, usize), ReadFault>
     ensures { GivesCommands lines.now result }
 {
     let mut commands = ListOf::new(alloc);
     for (i, line) in lines.iter().enumerate() {
-        if is_only(line, b"commit") {
+        if is_only(line.words.items(), b"commit") {
             return Ok((commands, i + 1));
         }
-        commands.push(read_command(alloc, line)?)?;
+        commands.push(read_command(alloc, line.words.items())?)?;
     }
     Err(ReadFault::Refused)
 }
 
 /// The transaction at the front of the lines, and how many lines it is.
-fn read_txn(alloc: Global, lines: &[Vec<&[u8]>]) -> Result<(Txn, usize), ReadFault>
+fn read_txn(alloc: Global, lines: &[Line]) -> Result<(Txn, usize), ReadFault>
     requires { 0 < length lines.now }
     ensures { GivesTxn lines.now result }
 {
-    if !is_only(&lines[0], b"begin") {
+    if !is_only(lines[0].words.items(), b"begin") {
         return Err(ReadFault::Refused);
     }
     let (commands, count) = read_commands(alloc, &lines[1..])?;
@@ -43,7 +44,7 @@ fn read_txn(alloc: Global, lines: &[Vec<&[u8]>]) -> Result<(Txn, usize), ReadFau
 }
 
 /// The transactions that the lines spell, to their end.
-fn read_txns(alloc: Global, lines: &[Vec<&[u8]>]) -> Result<Txns, ReadFault>
+fn read_txns(alloc: Global, lines: &[Line]) -> Result<Txns, ReadFault>
     ensures { Gives (λ txns. ([], txns)) result (txns_at (seen_lines lines.now) false) }
 {
     let mut txns = ListOf::new(alloc);
@@ -58,7 +59,7 @@ fn read_txns(alloc: Global, lines: &[Vec<&[u8]>]) -> Result<Txns, ReadFault>
 
 /// The client that its line and its transactions' lines spell.
 #[tactic(auto, unfolding(crate::specs::Reading::client_at))]
-fn read_client(alloc: Global, line: &[&[u8]], lines: &[Vec<&[u8]>]) -> Result<JobClient, ReadFault>
+fn read_client(alloc: Global, line: &[Word], lines: &[Line]) -> Result<JobClient, ReadFault>
     ensures { Gives (λ client. client) result (client_at (seen_words line.now) (seen_lines lines.now)) }
 {
     let name = read_named(line, b"client")?;
@@ -74,7 +75,7 @@ fn read_client(alloc: Global, line: &[&[u8]], lines: &[Vec<&[u8]>]) -> Result<Jo
 
 /// The job that the lines spell: one client, or none where there is no line.
 #[tactic(auto, unfolding(crate::specs::Reading::job_at))]
-pub(crate) fn read_job(alloc: Global, lines: &[Vec<&[u8]>]) -> Result<Job, ReadFault>
+pub(crate) fn read_job(alloc: Global, lines: &[Line]) -> Result<Job, ReadFault>
     ensures { Gives (λ job. job) result (job_at (seen_lines lines.now)) }
 {
     let turns = ListOf::new(alloc);
@@ -82,6 +83,6 @@ pub(crate) fn read_job(alloc: Global, lines: &[Vec<&[u8]>]) -> Result<Job, ReadF
     let [line, after @ ..] = lines else {
         return Ok(Job { clients, turns });
     };
-    clients.push(read_client(alloc, line, after)?)?;
+    clients.push(read_client(alloc, line.words.items(), after)?)?;
     Ok(Job { clients, turns })
 }

@@ -4,28 +4,28 @@ ghost use Rattle.std.specs.Prelude.{◌≡◌};
 ghost use Rattle.ostore_job_text.specs.Reading.{Gives, seen_words, is_only, named_at};
 
 use crate::reading::fault::ReadFault;
-use crate::reading::names::is_identifier;
+use ostore_text_words::{Word, is_identifier};
 
 /// Whether the line is this word alone.
-pub(crate) fn is_only(line: &[&[u8]], word: &[u8]) -> bool
+pub(crate) fn is_only(line: &[Word], word: &[u8]) -> bool
     ensures { result ≡ is_only word.now (seen_words line.now) }
 {
     match line {
-        [found] => *found == word,
+        [found] => found.bytes == word,
         _ => false,
     }
 }
 
 /// The name after this word, in a line of two words.
-pub(crate) fn read_named<'a>(line: &[&'a [u8]], word: &[u8]) -> Result<&'a [u8], ReadFault>
+pub(crate) fn read_named<'a>(line: &[Word<'a>], word: &[u8]) -> Result<&'a [u8], ReadFault>
     ensures { Gives (λ name. name.now) result (named_at word.now (seen_words line.now)) }
 {
     match line {
         [first, name] => {
-            if *first != word || !is_identifier(name) {
+            if first.bytes != word || !is_identifier(name.bytes) {
                 return Err(ReadFault::Refused);
             }
-            Ok(name)
+            Ok(name.bytes)
         }
         _ => Err(ReadFault::Refused),
     }

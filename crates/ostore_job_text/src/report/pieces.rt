@@ -2,7 +2,8 @@
 
 ghost use Rattle.std.specs.Prelude.{◌≡◌, ◌<◌, ◌∷◌, [], ◌++◌, false, decimal, OnOk};
 ghost use Rattle.std.specs.Fmt.{signed_decimal, digit_glyph};
-ghost use Rattle.ostore_job_text.specs.Report.{word_text, escaped, quoted};
+ghost use Rattle.ostore_text_words.specs.Words.{escaped, quoted};
+ghost use Rattle.ostore_job_text.specs.Report.{word_text};
 
 use itoa::Buffer;
 use ostore_base::{OutOfMemory, Text};

@@ -9,7 +9,7 @@ const WHOLE: &[u8] =
     b"type Part\nid int\njob\nclient a\nbegin\nnew $p Part 1\nset $p.id 7\nget $p.id\ncommit\n";
 
 /// How many types, members, clients, transactions and commands a text has.
-fn sizes(alloc: Global, text: &[u8]) -> Result<[usize; 5], ReadFault> {
+fn sizes(alloc: Global, text: &[u8]) -> Result<[usize; 5], TryFault> {
     let input = read_try_input(alloc, text)?;
     let mut sizes = [input.schema.types.items().len(), 0, 0, 0, 0];
     if let [ty] = input.schema.types.items() {
@@ -78,12 +78,8 @@ fn short_texts(rt: HostRuntime) -> Result<(), Fail> {
 fn refused_texts(rt: HostRuntime) {
     for text in [
         b"".as_slice(),
-        b"id int\n".as_slice(),
         b"type A\ntype B\n".as_slice(),
-        b"type job\n".as_slice(),
-        b"type A\nid int\nid int\n".as_slice(),
         b"type A\nb ref A\n".as_slice(),
-        b"type A\nid\x01 int\n".as_slice(),
         b"type A\njob\nbegin\ncommit\n".as_slice(),
         b"type A\njob\nclient a\nclient b\n".as_slice(),
         b"type A\njob\nclient a tries=2\n".as_slice(),
@@ -94,9 +90,37 @@ fn refused_texts(rt: HostRuntime) {
         b"type A\njob\nclient a\nbegin\nnew $p A 256\ncommit\n".as_slice(),
         b"type A\njob\nclient a\nbegin\nset $p.id +1\ncommit\n".as_slice(),
         b"type A\njob\nclient a\nturns a 1\n".as_slice(),
+        b"type A\njob\njob\n".as_slice(),
+        b"type A\njob\n# \x01\n".as_slice(),
+        b"type A\njob\n# \xff\n".as_slice(),
     ] {
         assert!(rt;
-            matches!(read_try_input(rt.alloc(), text), Err(ReadFault::Refused)),
+            matches!(read_try_input(rt.alloc(), text), Err(TryFault::Refused)),
+            "{text:?}"
+        );
+    }
+}
+
+#[test]
+fn schemas_at_fault(rt: HostRuntime) {
+    for (text, fault) in [
+        (b"id int\n".as_slice(), SchemaFault::Syntax { at: 0 }),
+        (b"type job\njob\n".as_slice(), SchemaFault::Syntax { at: 5 }),
+        (
+            b"type A\nid int\nid int\njob\nclient\n".as_slice(),
+            SchemaFault::DuplicateMember { at: 14 },
+        ),
+        (
+            b"type A\nx ref B\n  job  \n\xff".as_slice(),
+            SchemaFault::UnknownType { at: 13 },
+        ),
+        (
+            b"type A\n# \xff\njob\n".as_slice(),
+            SchemaFault::NotUtf8 { at: 9 },
+        ),
+    ] {
+        assert!(rt;
+            matches!(read_try_input(rt.alloc(), text), Err(TryFault::Schema(found)) if found == fault),
             "{text:?}"
         );
     }
@@ -119,7 +143,7 @@ fn members_to_the_limit(rt: HostRuntime) -> Result<(), Fail> {
     assert!(rt;
         matches!(
             read_try_input(rt.alloc(), too_many.as_bytes()),
-            Err(ReadFault::Refused)
+            Err(TryFault::Schema(SchemaFault::TooManyMembers { .. }))
         )
     );
     Ok(())

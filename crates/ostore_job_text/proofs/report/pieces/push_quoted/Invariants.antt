@@ -1,7 +1,7 @@
 -- The bytes before this one are printed.
 use Rattle.std.proofs.Common.{◌≡◌, ◌++◌, take}
 use Rattle.std.specs.List.{flat_map}
-use Rattle.ostore_job_text.specs.Report.{escaped}
+use Rattle.ostore_text_words.specs.Words.{escaped}
 use Rattle.ostore_job_text.proofs.report.pieces.push_quoted.Given as goal
 
 abbrev pub invariant-loop-byte : goal.invariant-loop-byte

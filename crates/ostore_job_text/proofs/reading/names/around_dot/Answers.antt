@@ -1,8 +1,0 @@
-use Rattle.ostore_job_text.proofs.WordReaders.{around_none, around_some}
-use Rattle.ostore_job_text.proofs.reading.names.around_dot.Goals as goal
-
-pub returns-in_err-dot : goal.returns-in_err-dot
-returns-in_err-dot c = rw c.from_residual.ensures (around_none 46 c.args.bytes.now c.in_err-dot.ensures)
-
-pub returns : goal.returns
-returns c = around_some 46 c.args.bytes.now c.in_ok-dot.dot c.in_ok-dot.ensures
