@@ -6,12 +6,16 @@ use Rattle.std.proofs.lemmas.Grind.{common_steps}
 use Rattle.std.proofs.lemmas.List.{same_lists, append_assoc, drop-drop, take_at, length-take-le, length-drop, get_or-drop, get_or-take, get_or_default, get_or_append_left, length-replicate}
 use Rattle.byteorder.specs.Endian.{little_from, little_bytes}
 use Rattle.byteorder.specs.Numbers.{little_number-reads_back, length-bytes_low_first}
+use Rattle.std.specs.Prelude.{ℤ, FitsSigned}
+use Rattle.std.specs.Int.{w64, cast_signed, cast_unsigned}
+use Rattle.std.proofs.lemmas.Int.{to_z-of_z}
+use mir.ValLaws.{of_z_fits}
 use borrow.Rule.Slice.PartMut.{put_mid}
 use Rattle.ostore_base.specs.Disk.{replaced}
 use Rattle.ostore_base.proofs.DiskLemmas.{drop-replaced}
 use Rattle.ostore_page_tags.specs.declared.page_header.PageHeader.{PageHeader}
 use Rattle.ostore_page_tags.specs.Header.{header_of, with_header}
-use Rattle.ostore_page_tags.specs.Numbers.{number_at, with_number}
+use Rattle.ostore_page_tags.specs.Numbers.{number_at, with_number, int_at, with_int}
 use Rattle.ostore_page_tags.specs.Cells.{between}
 
 -- two images have the same bytes from one place up to another
@@ -171,6 +175,10 @@ pub number_at-with_number : (n at value : ℕ) (bytes : List ℕ) → value < 25
 number_at-with_number n at value bytes fits within =
     let size = length-bytes_low_first 0 n value in
     rw (drop-replaced_at at (little_bytes n value) bytes (omega arith)) (little_number-reads_back n value _ fits)
+
+pub int_at-with_int : (at : ℕ) (value : ℤ) (bytes : List ℕ) → FitsSigned w64 value → at + 8 ≤ length bytes → int_at at (with_int at value bytes) ≡ value
+int_at-with_int at value bytes fits within =
+    ap (cast_signed w64) (number_at-with_number 8 at (cast_unsigned w64 value) bytes (of_z_fits w64 value fits).fits within) ∙ to_z-of_z w64 value fits
 
 pub SameOn-with_number_before : (n at value start stop : ℕ) (bytes : List ℕ) → stop ≤ at → at + n ≤ length bytes → SameOn start stop (with_number n at value bytes) bytes
 SameOn-with_number_before n at value start stop bytes below within =

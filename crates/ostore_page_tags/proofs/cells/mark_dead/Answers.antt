@@ -13,4 +13,4 @@ zero_between-requires-clause-within c = (mark_range c.args.image.now.bytes c.ind
 pub returns : goal.returns
 returns c =
     written-MarksDead c.args.image.now.bytes c.put_u8.new.image.bytes c.zero_between.new.image.bytes c.index_of-i.result c.args.offset c.cell_end-end.result c.row_place.result
-    c.requires.page c.index_of-i.ensures.below c.index_of-i.ensures.at c.cell_end-end.ensures c.row_place.ensures c.put_u8.ensures c.zero_between.ensures
+    c.requires.page c.index_of-i.ensures.below c.index_of-i.ensures.at c.cell_end-end.ensures c.row_place.ensures c.put_u8.ensures.written c.zero_between.ensures
