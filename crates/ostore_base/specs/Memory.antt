@@ -1,5 +1,6 @@
 -- The outside in memory: what stands there, and which calls fail.
-use Rattle.std.specs.Prelude.{◌≡◌, ℕ, ◌+◌, ◌-◌, ◌^◌, min, List, Contains}
+use Rattle.std.specs.Prelude.{◌≡◌, ℕ, ◌+◌, List, Contains}
+use Rattle.ostore_base.specs.Faults.{one_more}
 
 -- the bytes that a source has left, a sink was given or a disk holds; the numbers of the calls that
 -- fail, counted from 1; how many calls there were, and how many of them failed
@@ -20,4 +21,4 @@ IsNextNamed state = Contains state.fails (state.calls + 1)
 -- one call more, and the same calls that fail
 pub record CountsCall (old new : MemoryState) : Type 0 where
   pub same_fails : new.fails ≡ old.fails
-  pub one_more : new.calls ≡ min (old.calls + 1) (2 ^ 64 - 1)
+  pub one_more : new.calls ≡ one_more old.calls

@@ -2,6 +2,8 @@
 //! the small list types that contracts see as lists.
 #![tactic(auto)]
 
+mod copied;
+mod fault_count;
 mod list;
 mod memory;
 mod numbers;
@@ -12,9 +14,10 @@ mod page_list;
 mod standard;
 mod text;
 
+pub use copied::Copied;
 pub use list::ListOf;
 pub use memory::{MemDisk, MemSink, MemSource};
-pub use numbers::{ClientNo, PageNo, PageNos};
+pub use numbers::{CLIENTS, ClientNo, PageNo, PageNos};
 pub use out_of_memory::OutOfMemory;
 pub use outside::{Disk, Failed, LONGEST_DISK, Sink, Source};
 pub use page::{PAGE_SIZE, PageImage};

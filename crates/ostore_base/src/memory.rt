@@ -2,7 +2,7 @@
 //! calls that are named when they are made.
 
 mod disk;
-mod plan;
+mod held;
 mod sink;
 mod source;
 

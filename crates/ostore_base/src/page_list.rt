@@ -1,6 +1,7 @@
 //! The page images of a database.
 
 ghost use Rattle.std.specs.Prelude.{◌≡◌, ◌<◌, ◌≤◌, ◌↔◌, ◌++◌, [], ◌∷◌, length, slice_get, slice_set, IsTrue, IfOk, OnOk, OnErr};
+ghost use Rattle.ostore_base.specs.Limits.{most_pages};
 
 use crate::numbers::PageNo;
 use crate::out_of_memory::OutOfMemory;
@@ -21,13 +22,13 @@ pub struct PageList {
 impl Model for PageList {
     ghost use Rattle.std.specs.Prelude.{List, ◌≤◌, vec_len};
     ghost use Rattle.ostore_base.specs.declared.page.PageImage.{PageImage};
-    ghost use Rattle.ostore_base.specs.declared.page_list.TheConstants.{MAX_PAGES};
+    ghost use Rattle.ostore_base.specs.Limits.{most_pages};
 
     ghost Value = { List PageImage };
 
     ghost view = { λ l. l.images.items };
 
-    ghost invariant = { λ l. vec_len l.images ≤ MAX_PAGES };
+    ghost invariant = { λ l. vec_len l.images ≤ most_pages };
 }
 
 impl PageList {
@@ -42,7 +43,7 @@ impl PageList {
 
     /// Adds a page at the end. A refused push leaves the list.
     pub fn push(&mut self, image: &PageImage) -> Result<(), OutOfMemory>
-        requires { length self.old < MAX_PAGES }
+        requires { length self.old < most_pages }
         ensures ok { OnOk result (self.new ≡ self.old ++ image.now ∷ []) }
         ensures err { OnErr result (self.new ≡ self.old) }
     {
@@ -53,7 +54,7 @@ impl PageList {
     /// How many pages there are.
     pub fn len(&self) -> u32
         ensures len { result ≡ length self.now }
-        ensures most { result ≤ MAX_PAGES }
+        ensures most { result ≤ most_pages }
     {
         self.images.len() as u32
     }
@@ -63,6 +64,13 @@ impl PageList {
         ensures { IsTrue result ↔ (self.now ≡ []) }
     {
         self.images.is_empty()
+    }
+
+    /// Whether there are as many as a database has at most.
+    pub fn is_full(&self) -> bool
+        ensures { IsTrue result ↔ (length self.now ≡ most_pages) }
+    {
+        self.images.len() == MAX_PAGES
     }
 
     /// The image of a page.

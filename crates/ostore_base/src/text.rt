@@ -1,7 +1,8 @@
 //! Bytes of any length, as contracts see them.
 
-ghost use Rattle.std.specs.Prelude.{◌≡◌, [], ◌++◌, IfOk, OnOk, OnErr};
+ghost use Rattle.std.specs.Prelude.{◌≡◌, ◌↔◌, [], ◌∷◌, ◌++◌, length, IsTrue, IfOk, OnOk, OnErr};
 
+use crate::copied::Copied;
 use crate::out_of_memory::OutOfMemory;
 use std::alloc::Global;
 use std::marker::Model;
@@ -61,11 +62,30 @@ impl Text {
         &self.bytes
     }
 
-    /// An equal text.
+    /// How many bytes there are.
+    pub fn len(&self) -> usize
+        ensures { result ≡ length self.now }
+    {
+        self.bytes.len()
+    }
+
+    /// Whether there are none.
+    pub fn is_empty(&self) -> bool
+        ensures { IsTrue result ↔ (self.now ≡ []) }
+    {
+        self.bytes.is_empty()
+    }
+
+    /// The allocator that it was made with.
+    pub fn allocator(&self) -> Global {
+        *self.bytes.allocator()
+    }
+
+    /// An equal text, by the allocator of this one.
     pub fn copy(&self) -> Result<Text, OutOfMemory>
         ensures { IfOk result (λ text. text ≡ self.now) }
     {
-        Text::from_bytes(*self.bytes.allocator(), &self.bytes)
+        Text::from_bytes(self.allocator(), &self.bytes)
     }
 
     /// Adds bytes at the end. A refused push leaves the text.
@@ -75,5 +95,20 @@ impl Text {
     {
         self.bytes.extend_from_slice(bytes)?;
         Ok(())
+    }
+
+    /// Adds a byte at the end. A refused push leaves the text.
+    pub fn push(&mut self, byte: u8) -> Result<(), OutOfMemory>
+        ensures ok { OnOk result (self.new ≡ self.old ++ byte ∷ []) }
+        ensures err { OnErr result (self.new ≡ self.old) }
+    {
+        self.bytes.push(byte)?;
+        Ok(())
+    }
+}
+
+impl Copied for Text {
+    fn copy(&self) -> Result<Text, OutOfMemory> {
+        self.copy()
     }
 }

@@ -1,19 +1,17 @@
-ghost use Rattle.std.specs.Prelude.{◌≡◌, ◌+◌, ◌^◌, ◌≤◌, ◌↔◌, length, take, drop, Some, IsErr, IfOk, OnOk, OnErr};
-ghost use Rattle.ostore_base.specs.Faults.{HasCause};
+ghost use Rattle.std.specs.Prelude.{◌≡◌, ◌⊎◌, ◌+◌, ◌^◌, ◌<◌, ◌≤◌, ◌↔◌, length, take, drop, Some, IsErr, IfOk, OnOk, OnErr};
+ghost use Rattle.ostore_base.specs.Limits.{longest_disk};
+ghost use Rattle.ostore_base.specs.Faults.{HasCause, CountsFault};
 ghost use Rattle.ostore_base.specs.Disk.{replaced};
-ghost use Rattle.ostore_base.specs.declared.outside.disk.TheConstants.{LONGEST_DISK};
 ghost use Rattle.ostore_base.specs.Memory.{MemoryState, fresh, IsNextNamed, CountsCall};
 
-use crate::memory::plan::Plan;
+use crate::memory::held::Held;
 use crate::outside::{Disk, Failed, LONGEST_DISK};
-use std::alloc::AllocError;
 use std::marker::Model;
 
 /// A disk in memory. A contract sees the bytes that it reads as.
 #[derive(Debug, Drop)]
 pub struct MemDisk {
-    bytes: Vec<u8>,
-    plan: Plan,
+    held: Held,
 }
 
 impl Model for MemDisk {
@@ -21,23 +19,18 @@ impl Model for MemDisk {
 
     ghost Value = { MemoryState };
 
-    ghost view = { λ s. record {
-      bytes = s.bytes.items;
-      fails = s.plan.fails.items;
-      calls = s.plan.calls;
-      faults = s.plan.faults;
-    } };
+    ghost view = { λ s. s.held };
 }
 
 impl MemDisk {
-    /// A disk with these bytes. Its calls fail whose numbers, counted from 1, stand in `fails`, and
-    /// also the writes that find no memory to grow, and those that end past `LONGEST_DISK`.
+    /// A disk with these bytes. Its calls fail whose numbers, counted from 1, stand in `fails`. Of
+    /// the others those writes fail that find no memory to grow, and those that end past the longest
+    /// disk. Where there are more bytes than the longest disk has, its length can't be had.
     pub fn new(bytes: Vec<u8>, fails: Vec<u64>) -> MemDisk
         ensures { result ≡ fresh bytes.items fails.items }
     {
         MemDisk {
-            bytes,
-            plan: Plan::new(fails),
+            held: Held::new(bytes, fails),
         }
     }
 
@@ -45,21 +38,21 @@ impl MemDisk {
     pub fn bytes(&self) -> &[u8]
         ensures { result.now ≡ self.now.bytes }
     {
-        &self.bytes
+        self.held.bytes()
     }
 
     /// How many calls there were.
     pub fn calls(&self) -> u64
         ensures { result ≡ self.now.calls }
     {
-        self.plan.calls
+        self.held.calls()
     }
 
     /// How many calls failed.
     pub fn faults(&self) -> u64
         ensures { result ≡ self.now.faults }
     {
-        self.plan.faults
+        self.held.faults()
     }
 }
 
@@ -68,29 +61,37 @@ impl Disk for MemDisk {
 
     ghost faults = { λ s. s.faults };
 
+    // No sync spoils any of its bytes.
+    ghost unsure = { λ _ _. ⊥ };
+
     fn length(&mut self) -> Result<u64, Failed>
         ensures value { IfOk result (λ n. n ≡ length self.old.bytes) }
         ensures kept { self.new.bytes ≡ self.old.bytes }
-        ensures cause { HasCause self.old.faults self.new.faults result }
-        ensures named { IsErr result ↔ IsNextNamed self.old }
+        ensures failed { IsErr result ↔ IsNextNamed self.old ⊎ (longest_disk < length self.old.bytes) }
         ensures counted { CountsCall self.old self.new }
+        ensures fault { CountsFault self.old.faults self.new.faults result }
+        ensures cause { HasCause self.old.faults self.new.faults result }
     {
-        self.plan.count_call()?;
-        Ok(self.bytes.len() as u64)
+        self.held.begin_call()?;
+        let length = self.held.bytes().len() as u64;
+        if length > LONGEST_DISK {
+            return Err(self.held.fail());
+        }
+        Ok(length)
     }
 
     fn read(&mut self, at: u64, into: &mut [u8]) -> Result<(), Failed>
         requires { at + length into.old ≤ length self.old.bytes }
         ensures bytes { OnOk result (into.new ≡ take (length into.old) (drop at self.old.bytes)) }
         ensures kept { self.new.bytes ≡ self.old.bytes }
-        ensures cause { HasCause self.old.faults self.new.faults result }
         ensures named { IsErr result ↔ IsNextNamed self.old }
         ensures counted { CountsCall self.old self.new }
+        ensures fault { CountsFault self.old.faults self.new.faults result }
+        ensures cause { HasCause self.old.faults self.new.faults result }
     {
-        self.plan.count_call()?;
-        let start = at as usize;
-        let end = start + into.len();
-        into.copy_from_slice(&self.bytes[start..end]);
+        self.held.begin_call()?;
+        let from = &self.held.bytes()[at as usize..];
+        into.copy_from_slice(&from[..into.len()]);
         Ok(())
     }
 
@@ -101,39 +102,27 @@ impl Disk for MemDisk {
         ensures written { OnOk result (self.new.bytes ≡ replaced at bytes.now self.old.bytes) }
         ensures kept { OnErr result (self.new.bytes ≡ self.old.bytes) }
         ensures named { IsNextNamed self.old → IsErr result }
-        ensures cause { HasCause self.old.faults self.new.faults result }
-        ensures within { OnOk result (at + length bytes.now ≤ LONGEST_DISK) }
+        ensures within { OnOk result (at + length bytes.now ≤ longest_disk) }
+        ensures failed { IsErr result → IsNextNamed self.old ⊎ (longest_disk < at + length bytes.now)
+            ⊎ (length self.old.bytes < at + length bytes.now) }
         ensures counted { CountsCall self.old self.new }
+        ensures fault { CountsFault self.old.faults self.new.faults result }
+        ensures cause { HasCause self.old.faults self.new.faults result }
     {
-        self.plan.count_call()?;
+        self.held.begin_call()?;
         if at + bytes.len() as u64 > LONGEST_DISK {
-            return Err(self.plan.fault());
+            return Err(self.held.fail());
         }
-        match write_over(&mut self.bytes, at as usize, bytes) {
-            Ok(()) => Ok(()),
-            Err(_) => Err(self.plan.fault()),
-        }
+        self.held.put(at as usize, bytes)
     }
 
     fn sync(&mut self) -> Result<(), Failed>
         ensures kept { self.new.bytes ≡ self.old.bytes }
-        ensures cause { HasCause self.old.faults self.new.faults result }
         ensures named { IsErr result ↔ IsNextNamed self.old }
         ensures counted { CountsCall self.old self.new }
+        ensures fault { CountsFault self.old.faults self.new.faults result }
+        ensures cause { HasCause self.old.faults self.new.faults result }
     {
-        self.plan.count_call()
+        self.held.begin_call()
     }
-}
-
-/// Writes bytes at `at`, over what is there and past the end. It takes the memory first, so what
-/// is there stays where memory is refused.
-fn write_over(held: &mut Vec<u8>, at: usize, bytes: &[u8]) -> Result<(), AllocError>
-    requires { at ≤ length held.old.items }
-    ensures ok { OnOk result (held.new.items ≡ replaced at bytes.now held.old.items) }
-    ensures err { OnErr result (held.new.items ≡ held.old.items) }
-{
-    let count = bytes.len().min(held.len() - at);
-    held.extend_from_slice(&bytes[count..])?;
-    held[at..at + count].copy_from_slice(&bytes[..count]);
-    Ok(())
 }

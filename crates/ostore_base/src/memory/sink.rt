@@ -1,8 +1,8 @@
-ghost use Rattle.std.specs.Prelude.{◌≡◌, [], length, Some, ◌++◌, IfOk, OnOk, IsErr, OnErr};
-ghost use Rattle.ostore_base.specs.Faults.{HasCause};
+ghost use Rattle.std.specs.Prelude.{◌≡◌, ◌⊎◌, ◌<◌, [], length, Some, ◌++◌, IfOk, OnOk, IsErr, OnErr};
+ghost use Rattle.ostore_base.specs.Faults.{HasCause, CountsFault};
 ghost use Rattle.ostore_base.specs.Memory.{MemoryState, fresh, IsNextNamed, CountsCall};
 
-use crate::memory::plan::Plan;
+use crate::memory::held::Held;
 use crate::outside::{Failed, Sink};
 use std::alloc::Global;
 use std::marker::Model;
@@ -10,8 +10,7 @@ use std::marker::Model;
 /// A sink of bytes in memory. A contract sees the bytes that were written.
 #[derive(Debug, Drop)]
 pub struct MemSink {
-    bytes: Vec<u8>,
-    plan: Plan,
+    held: Held,
 }
 
 impl Model for MemSink {
@@ -19,23 +18,17 @@ impl Model for MemSink {
 
     ghost Value = { MemoryState };
 
-    ghost view = { λ s. record {
-      bytes = s.bytes.items;
-      fails = s.plan.fails.items;
-      calls = s.plan.calls;
-      faults = s.plan.faults;
-    } };
+    ghost view = { λ s. s.held };
 }
 
 impl MemSink {
     /// A sink to which nothing was written. Its calls fail whose numbers, counted from 1, stand in
-    /// `fails`, and also those that find no memory.
+    /// `fails`, and also those that find no memory to grow.
     pub fn new(alloc: Global, fails: Vec<u64>) -> MemSink
         ensures { result ≡ fresh [] fails.items }
     {
         MemSink {
-            bytes: Vec::new(alloc),
-            plan: Plan::new(fails),
+            held: Held::new(Vec::new(alloc), fails),
         }
     }
 
@@ -43,21 +36,21 @@ impl MemSink {
     pub fn bytes(&self) -> &[u8]
         ensures { result.now ≡ self.now.bytes }
     {
-        &self.bytes
+        self.held.bytes()
     }
 
     /// How many calls there were.
     pub fn calls(&self) -> u64
         ensures { result ≡ self.now.calls }
     {
-        self.plan.calls
+        self.held.calls()
     }
 
     /// How many calls failed.
     pub fn faults(&self) -> u64
         ensures { result ≡ self.now.faults }
     {
-        self.plan.faults
+        self.held.faults()
     }
 }
 
@@ -66,19 +59,19 @@ impl Sink for MemSink {
 
     ghost faults = { λ s. s.faults };
 
-    /// Takes the whole piece.
+    /// Takes the whole piece. A piece without bytes wants no memory.
     fn write(&mut self, bytes: &[u8]) -> Result<usize, Failed>
         ensures whole { IfOk result (λ n. n ≡ length bytes.now) }
         ensures written { OnOk result (self.new.bytes ≡ self.old.bytes ++ bytes.now) }
         ensures kept { OnErr result (self.new.bytes ≡ self.old.bytes) }
-        ensures cause { HasCause self.old.faults self.new.faults result }
         ensures named { IsNextNamed self.old → IsErr result }
+        ensures failed { IsErr result → IsNextNamed self.old ⊎ (0 < length bytes.now) }
         ensures counted { CountsCall self.old self.new }
+        ensures fault { CountsFault self.old.faults self.new.faults result }
+        ensures cause { HasCause self.old.faults self.new.faults result }
     {
-        self.plan.count_call()?;
-        match self.bytes.extend_from_slice(bytes) {
-            Ok(()) => Ok(bytes.len()),
-            Err(_) => Err(self.plan.fault()),
-        }
+        self.held.begin_call()?;
+        self.held.append(bytes)?;
+        Ok(bytes.len())
     }
 }

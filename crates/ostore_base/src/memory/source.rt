@@ -1,34 +1,28 @@
 ghost use Rattle.std.specs.Prelude.{◌≡◌, ◌≤◌, ◌↔◌, min, length, drop, Some, IsErr, IfOk, OnErr};
-ghost use Rattle.ostore_base.specs.Faults.{HasCause};
+ghost use Rattle.ostore_base.specs.Faults.{HasCause, CountsFault};
 ghost use Rattle.ostore_base.specs.Streams.{GivesFront};
 ghost use Rattle.ostore_base.specs.Memory.{MemoryState, fresh, IsNextNamed, CountsCall};
 
-use crate::memory::plan::Plan;
+use crate::memory::held::Held;
 use crate::outside::{Failed, Source};
 use std::marker::Model;
 
 /// A source of bytes in memory. A contract sees the bytes that are left.
 #[derive(Debug, Drop)]
 pub struct MemSource {
-    bytes: Vec<u8>,
+    held: Held,
     taken: usize,
-    plan: Plan,
 }
 
 impl Model for MemSource {
-    ghost use Rattle.std.specs.Prelude.{◌≤◌, drop, vec_len};
+    ghost use Rattle.std.specs.Prelude.{◌≤◌, drop, length};
     ghost use Rattle.ostore_base.specs.Memory.{MemoryState};
 
     ghost Value = { MemoryState };
 
-    ghost view = { λ s. record {
-      bytes = drop s.taken s.bytes.items;
-      fails = s.plan.fails.items;
-      calls = s.plan.calls;
-      faults = s.plan.faults;
-    } };
+    ghost view = { λ s. record s.held { bytes = drop s.taken s.held.bytes } };
 
-    ghost invariant = { λ s. s.taken ≤ vec_len s.bytes };
+    ghost invariant = { λ s. s.taken ≤ length s.held.bytes };
 }
 
 impl MemSource {
@@ -37,9 +31,8 @@ impl MemSource {
         ensures { result ≡ fresh bytes.items fails.items }
     {
         MemSource {
-            bytes,
+            held: Held::new(bytes, fails),
             taken: 0,
-            plan: Plan::new(fails),
         }
     }
 
@@ -47,14 +40,14 @@ impl MemSource {
     pub fn calls(&self) -> u64
         ensures { result ≡ self.now.calls }
     {
-        self.plan.calls
+        self.held.calls()
     }
 
     /// How many calls failed.
     pub fn faults(&self) -> u64
         ensures { result ≡ self.now.faults }
     {
-        self.plan.faults
+        self.held.faults()
     }
 }
 
@@ -69,12 +62,13 @@ impl Source for MemSource {
         ensures moved { IfOk result (λ n. self.new.bytes ≡ drop n self.old.bytes) }
         ensures bytes { IfOk result (λ n. GivesFront self.old.bytes into.new n) }
         ensures kept { OnErr result (self.new.bytes ≡ self.old.bytes) }
-        ensures cause { HasCause self.old.faults self.new.faults result }
         ensures named { IsErr result ↔ IsNextNamed self.old }
         ensures counted { CountsCall self.old self.new }
+        ensures fault { CountsFault self.old.faults self.new.faults result }
+        ensures cause { HasCause self.old.faults self.new.faults result }
     {
-        self.plan.count_call()?;
-        let count = move_front(&self.bytes[self.taken..], into);
+        self.held.begin_call()?;
+        let count = move_front(&self.held.bytes()[self.taken..], into);
         self.taken += count;
         Ok(count)
     }

@@ -1,6 +1,6 @@
-ghost use Rattle.std.specs.Prelude.{◌≡◌, ◌≤◌, None, IfOk};
-ghost use Rattle.ostore_base.specs.Faults.{Rose};
+ghost use Rattle.std.specs.Prelude.{◌≡◌, None, IfOk};
 
+use crate::fault_count::FaultCount;
 use crate::outside::{Disk, Failed, LONGEST_DISK};
 use std::fs::{File, OpenOptions};
 use std::io;
@@ -12,7 +12,7 @@ use std::rt::Files;
 #[derive(Drop)]
 pub struct FileDisk {
     file: File,
-    faults: u64,
+    count: FaultCount,
 }
 
 impl Model for FileDisk {
@@ -20,7 +20,7 @@ impl Model for FileDisk {
 
     ghost Value = { ℕ };
 
-    ghost view = { λ d. d.faults };
+    ghost view = { λ d. d.count };
 }
 
 impl FileDisk {
@@ -33,23 +33,17 @@ impl FileDisk {
         how.write(true);
         how.create(true);
         let file = how.open(rt, path)?;
-        Ok(FileDisk { file, faults: 0 })
+        Ok(FileDisk {
+            file,
+            count: FaultCount::zero(),
+        })
     }
 
     /// How often it has failed. The count stays at the end of 64 bits.
     pub fn faults(&self) -> u64
         ensures { result ≡ self.now }
     {
-        self.faults
-    }
-
-    // Counts a fault.
-    fn fault(&mut self) -> Failed
-        ensures rose { Rose self.old self.new }
-        ensures later { self.old ≤ self.new }
-    {
-        self.faults = self.faults.saturating_add(1);
-        Failed
+        self.count.get()
     }
 }
 
@@ -58,34 +52,37 @@ impl Disk for FileDisk {
 
     ghost faults = { λ d. d };
 
+    // It tells no bytes, so this says nothing of them.
+    ghost unsure = { λ _ _. ⊥ };
+
     fn length(&mut self) -> Result<u64, Failed> {
         match self.file.metadata() {
-            Ok(metadata) => Ok(metadata.len()),
-            Err(_) => Err(self.fault()),
+            Ok(metadata) if metadata.len() <= LONGEST_DISK => Ok(metadata.len()),
+            _ => Err(self.count.rise()),
         }
     }
 
     fn read(&mut self, at: u64, into: &mut [u8]) -> Result<(), Failed> {
         match self.file.read_exact_at(into, at) {
             Ok(()) => Ok(()),
-            Err(_) => Err(self.fault()),
+            Err(_) => Err(self.count.rise()),
         }
     }
 
     fn write(&mut self, at: u64, bytes: &[u8]) -> Result<(), Failed> {
         if at + bytes.len() as u64 > LONGEST_DISK {
-            return Err(self.fault());
+            return Err(self.count.rise());
         }
         match self.file.write_all_at(bytes, at) {
             Ok(()) => Ok(()),
-            Err(_) => Err(self.fault()),
+            Err(_) => Err(self.count.rise()),
         }
     }
 
     fn sync(&mut self) -> Result<(), Failed> {
         match self.file.sync_all() {
             Ok(()) => Ok(()),
-            Err(_) => Err(self.fault()),
+            Err(_) => Err(self.count.rise()),
         }
     }
 }
