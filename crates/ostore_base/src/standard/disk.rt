@@ -1,4 +1,6 @@
-ghost use Rattle.std.specs.Prelude.{◌≡◌, None, IfOk};
+ghost use Rattle.std.specs.Prelude.{◌≡◌, ◌+◌, ◌^◌, ◌≤◌, length, None, IfOk, OnOk};
+ghost use Rattle.ostore_base.specs.Limits.{longest_disk};
+ghost use Rattle.ostore_base.specs.Faults.{HasCause, CountsFault};
 
 use crate::fault_count::FaultCount;
 use crate::outside::{Disk, Failed, LONGEST_DISK};
@@ -55,21 +57,33 @@ impl Disk for FileDisk {
     // It tells no bytes, so this says nothing of them.
     ghost unsure = { λ _ _. ⊥ };
 
-    fn length(&mut self) -> Result<u64, Failed> {
+    fn length(&mut self) -> Result<u64, Failed>
+        ensures bound { IfOk result (λ n. n ≤ longest_disk) }
+        ensures fault { CountsFault self.old self.new result }
+        ensures cause { HasCause self.old self.new result }
+    {
         match self.file.metadata() {
             Ok(metadata) if metadata.len() <= LONGEST_DISK => Ok(metadata.len()),
             _ => Err(self.count.rise()),
         }
     }
 
-    fn read(&mut self, at: u64, into: &mut [u8]) -> Result<(), Failed> {
+    fn read(&mut self, at: u64, into: &mut [u8]) -> Result<(), Failed>
+        ensures fault { CountsFault self.old self.new result }
+        ensures cause { HasCause self.old self.new result }
+    {
         match self.file.read_exact_at(into, at) {
             Ok(()) => Ok(()),
             Err(_) => Err(self.count.rise()),
         }
     }
 
-    fn write(&mut self, at: u64, bytes: &[u8]) -> Result<(), Failed> {
+    fn write(&mut self, at: u64, bytes: &[u8]) -> Result<(), Failed>
+        requires small { at + length bytes.now ≤ 2 ^ 40 }
+        ensures within { OnOk result (at + length bytes.now ≤ longest_disk) }
+        ensures fault { CountsFault self.old self.new result }
+        ensures cause { HasCause self.old self.new result }
+    {
         if at + bytes.len() as u64 > LONGEST_DISK {
             return Err(self.count.rise());
         }
@@ -79,7 +93,10 @@ impl Disk for FileDisk {
         }
     }
 
-    fn sync(&mut self) -> Result<(), Failed> {
+    fn sync(&mut self) -> Result<(), Failed>
+        ensures fault { CountsFault self.old self.new result }
+        ensures cause { HasCause self.old self.new result }
+    {
         match self.file.sync_all() {
             Ok(()) => Ok(()),
             Err(_) => Err(self.count.rise()),
