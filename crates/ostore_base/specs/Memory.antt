@@ -14,6 +14,14 @@ pub record MemoryState : Type 0 where
 abbrev pub fresh : List ℕ → List ℕ → MemoryState
 fresh bytes fails = record { bytes = bytes; fails = fails; calls = 0; faults = 0 }
 
+-- with other bytes
+abbrev pub holding : List ℕ → MemoryState → MemoryState
+holding bytes state = record state { bytes = bytes }
+
+-- with one fault more
+abbrev pub after_fault : MemoryState → MemoryState
+after_fault state = record state { faults = one_more state.faults }
+
 -- the next call is one of those that fail
 abbrev pub IsNextNamed : MemoryState → Type 0
 IsNextNamed state = Contains state.fails (state.calls + 1)

@@ -68,7 +68,7 @@ impl PageList {
 
     /// Whether there are as many as a database has at most.
     pub fn is_full(&self) -> bool
-        ensures { IsTrue result ↔ (length self.now ≡ most_pages) }
+        ensures { IsTrue result ↔ (most_pages ≤ length self.now) }
     {
         self.images.len() == MAX_PAGES
     }

@@ -1,5 +1,5 @@
-//! The standard library's readers, writers and files as a source, a sink and a disk. They tell nothing
-//! of bytes.
+//! The standard library's readers, writers and files as a source, a sink and a disk. They tell
+//! nothing of bytes.
 
 mod counted;
 mod disk;

@@ -1,4 +1,5 @@
 use super::*;
+use std::alloc::Global;
 use std::io;
 use std::io::{ErrorKind, Read, Write};
 use std::test::Fail;
@@ -53,6 +54,89 @@ fn pages_are_pushed_set_and_copied(rt: HostRuntime) -> Result<(), Fail> {
     assert_eq!(rt; pages.page(PageNo(1)).bytes[0], 1);
     assert_eq!(rt; before.len(), 2);
     assert!(rt; *before.page(PageNo(0)) == PageImage::zeroed());
+    Ok(())
+}
+
+#[test]
+fn a_database_can_have_all_its_pages(rt: HostRuntime) -> Result<(), Fail> {
+    let mut pages = PageList::new(rt.alloc());
+    for number in 0..16384u32 {
+        assert_eq!(rt; pages.len(), number);
+        if !pages.is_full() {
+            pages.push(&filled((number % 251) as u8))?;
+        }
+    }
+    assert!(rt; pages.is_full());
+    let copy = pages.copy()?;
+    assert_eq!(rt; copy.len(), 16384);
+    for number in [0, 1, 250, 251, 16383] {
+        if number < copy.len() {
+            assert_eq!(rt; copy.page(PageNo(number)).bytes[7], (number % 251) as u8);
+        }
+    }
+    Ok(())
+}
+
+/// So many texts `number D`, where D is the last digit of the text's place.
+fn numerals(alloc: Global, count: u32) -> Result<ListOf<Text>, OutOfMemory> {
+    let mut texts = ListOf::new(alloc);
+    for number in 0..count {
+        let mut text = Text::new(alloc);
+        text.push_bytes(b"number ")?;
+        text.push(b'0' + (number % 10) as u8)?;
+        texts.push(text)?;
+    }
+    Ok(texts)
+}
+
+#[test]
+fn lists_grow_and_are_copied(rt: HostRuntime) -> Result<(), Fail> {
+    let alloc = rt.alloc();
+    let mut texts = numerals(alloc, 3000)?;
+    texts.append(numerals(alloc, 2005)?)?;
+    let copy = texts.copy()?;
+    assert_eq!(rt; copy.len(), 5005);
+    assert!(rt; copy.get(5005).is_none());
+    for (place, text) in copy.items().iter().enumerate() {
+        // Both lists begin at 0, and 3,000 ends in 0.
+        assert_eq!(rt; text.bytes()[7], b'0' + (place % 10) as u8);
+    }
+    if let Some(last) = copy.last() {
+        assert_eq!(rt; last.bytes(), b"number 4".as_slice());
+    }
+    let mut lists = ListOf::new(alloc);
+    let mut places = ListOf::new(alloc);
+    for page in 0..4000u32 {
+        places.extend(&[PageNo(page), PageNo(page + 1)])?;
+    }
+    if places.len() == 8000 {
+        places.set(7999, PageNo(9));
+    }
+    lists.push(places)?;
+    for pages in lists.copy()?.items() {
+        assert_eq!(rt; pages.len(), 8000);
+        assert!(rt; pages.get(7998) == Some(&PageNo(3999)));
+        assert!(rt; pages.last() == Some(&PageNo(9)));
+    }
+    Ok(())
+}
+
+#[test]
+fn memory_holds_much(rt: HostRuntime) -> Result<(), Fail> {
+    let alloc = rt.alloc();
+    let mut text = Text::new(alloc);
+    let mut sink = MemSink::new(alloc, Vec::new(alloc));
+    let mut disk = MemDisk::new(Vec::new(alloc), Vec::new(alloc));
+    for piece in 0..3000u64 {
+        text.push_bytes(b"a piece of text\n")?;
+        assert_eq!(rt; write_piece(&mut sink, b"a piece of text\n"), Ok(16));
+        if disk.bytes().len() as u64 == 16 * piece {
+            assert_eq!(rt; disk.write(16 * piece, b"a piece of text\n"), Ok(()));
+        }
+    }
+    assert_eq!(rt; text.len(), 48000);
+    assert_eq!(rt; sink.bytes(), text.copy()?.bytes());
+    assert_eq!(rt; disk.bytes(), text.bytes());
     Ok(())
 }
 
@@ -156,8 +240,45 @@ fn a_file_is_a_disk(rt: HostRuntime) -> Result<(), Fail> {
     let mut into = [0; 4];
     assert_eq!(rt; disk.read(2, &mut into), Ok(()));
     assert_eq!(rt; into, *b"ger!");
+    assert_eq!(rt; disk.faults(), 0);
     assert_eq!(rt; disk.read(4, &mut into), Err(Failed));
+    assert_eq!(rt; disk.write(LONGEST_DISK, b""), Ok(()));
     assert_eq!(rt; disk.write(LONGEST_DISK, b"!"), Err(Failed));
+    assert_eq!(rt; disk.faults(), 2);
+    Ok(())
+}
+
+#[test]
+fn a_file_keeps_what_was_written(rt: HostRuntime) -> Result<(), Fail> {
+    // What is written where, and what the file then holds once it is opened again.
+    let writes: [(u64, &[u8], &[u8]); 4] = [
+        (0, b"abcdef", b"abcdef"),
+        (6, b"ghij", b"abcdefghij"),
+        (8, b"IJKL", b"abcdefghIJKL"),
+        (1, b"-", b"a-cdefghIJKL"),
+    ];
+    for (at, bytes, held) in writes {
+        let mut disk = FileDisk::open(&rt, "kept")?;
+        assert_eq!(rt; disk.write(at, bytes), Ok(()));
+        drop(disk);
+        let mut disk = FileDisk::open(&rt, "kept")?;
+        assert_eq!(rt; disk.length(), Ok(held.len() as u64));
+        let mut into = [0u8; 12];
+        assert_eq!(rt; disk.read(0, &mut into[..held.len()]), Ok(()));
+        assert_eq!(rt; into[..held.len()], *held);
+        assert_eq!(rt; disk.faults(), 0);
+    }
+    Ok(())
+}
+
+#[test]
+fn a_full_device_fails_as_a_disk(rt: HostRuntime) -> Result<(), Fail> {
+    let mut disk = FileDisk::open(&rt, "/dev/full")?;
+    assert_eq!(rt; disk.write(0, b"pages"), Err(Failed));
+    assert_eq!(rt; disk.faults(), 1);
+    assert_eq!(rt; disk.sync(), Err(Failed));
+    assert_eq!(rt; disk.faults(), 2);
+    assert_eq!(rt; disk.length(), Ok(0));
     assert_eq!(rt; disk.faults(), 2);
     Ok(())
 }

@@ -1,7 +1,7 @@
-ghost use Rattle.std.specs.Prelude.{◌≡◌, ◌⊎◌, ◌+◌, ◌^◌, ◌<◌, ◌≤◌, ◌↔◌, length, take, drop, Some, IsErr, IfOk, OnOk, OnErr};
+ghost use Rattle.std.specs.Prelude.{◌≡◌, ◌⊎◌, ◌+◌, ◌^◌, ◌<◌, ◌≤◌, ◌↔◌, length, Some, IsErr, IfOk, OnOk, OnErr};
 ghost use Rattle.ostore_base.specs.Limits.{longest_disk};
 ghost use Rattle.ostore_base.specs.Faults.{HasCause, CountsFault};
-ghost use Rattle.ostore_base.specs.Disk.{replaced};
+ghost use Rattle.ostore_base.specs.Disk.{replaced, StandsAt};
 ghost use Rattle.ostore_base.specs.Memory.{MemoryState, fresh, IsNextNamed, CountsCall};
 
 use crate::memory::held::Held;
@@ -24,8 +24,8 @@ impl Model for MemDisk {
 
 impl MemDisk {
     /// A disk with these bytes. Its calls fail whose numbers, counted from 1, stand in `fails`. Of
-    /// the others those writes fail that find no memory to grow, and those that end past the longest
-    /// disk. Where there are more bytes than the longest disk has, its length can't be had.
+    /// the others those writes fail that find no memory to grow, and those that end past the
+    /// longest disk. Where there are more bytes than that has, `length` fails.
     pub fn new(bytes: Vec<u8>, fails: Vec<u64>) -> MemDisk
         ensures { result ≡ fresh bytes.items fails.items }
     {
@@ -67,7 +67,8 @@ impl Disk for MemDisk {
     fn length(&mut self) -> Result<u64, Failed>
         ensures value { IfOk result (λ n. n ≡ length self.old.bytes) }
         ensures kept { self.new.bytes ≡ self.old.bytes }
-        ensures failed { IsErr result ↔ IsNextNamed self.old ⊎ (longest_disk < length self.old.bytes) }
+        ensures failed { IsErr result ↔ IsNextNamed self.old
+            ⊎ (longest_disk < length self.old.bytes) }
         ensures counted { CountsCall self.old self.new }
         ensures fault { CountsFault self.old.faults self.new.faults result }
         ensures cause { HasCause self.old.faults self.new.faults result }
@@ -82,7 +83,7 @@ impl Disk for MemDisk {
 
     fn read(&mut self, at: u64, into: &mut [u8]) -> Result<(), Failed>
         requires { at + length into.old ≤ length self.old.bytes }
-        ensures bytes { OnOk result (into.new ≡ take (length into.old) (drop at self.old.bytes)) }
+        ensures bytes { OnOk result (StandsAt at into.new self.old.bytes) }
         ensures kept { self.new.bytes ≡ self.old.bytes }
         ensures named { IsErr result ↔ IsNextNamed self.old }
         ensures counted { CountsCall self.old self.new }
@@ -103,7 +104,8 @@ impl Disk for MemDisk {
         ensures kept { OnErr result (self.new.bytes ≡ self.old.bytes) }
         ensures named { IsNextNamed self.old → IsErr result }
         ensures within { OnOk result (at + length bytes.now ≤ longest_disk) }
-        ensures failed { IsErr result → IsNextNamed self.old ⊎ (longest_disk < at + length bytes.now)
+        ensures failed { IsErr result → IsNextNamed self.old
+            ⊎ (longest_disk < at + length bytes.now)
             ⊎ (length self.old.bytes < at + length bytes.now) }
         ensures counted { CountsCall self.old self.new }
         ensures fault { CountsFault self.old.faults self.new.faults result }

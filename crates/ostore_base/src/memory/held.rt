@@ -1,9 +1,9 @@
 //! Bytes in memory, and which calls on them fail.
 
 ghost use Rattle.std.specs.Prelude.{◌≡◌, ◌+◌, ◌<◌, ◌≤◌, ◌++◌, ◌↔◌, length, IsTrue, IsErr, OnOk, OnErr, Contains};
-ghost use Rattle.ostore_base.specs.Faults.{HasCause, CountsFault, one_more};
+ghost use Rattle.ostore_base.specs.Faults.{HasCause, CountsFault};
 ghost use Rattle.ostore_base.specs.Disk.{replaced};
-ghost use Rattle.ostore_base.specs.Memory.{MemoryState, fresh, IsNextNamed, CountsCall};
+ghost use Rattle.ostore_base.specs.Memory.{MemoryState, fresh, holding, after_fault, IsNextNamed, CountsCall};
 
 use crate::fault_count::FaultCount;
 use crate::outside::Failed;
@@ -84,7 +84,7 @@ impl Held {
 
     /// Fails the call that was counted last.
     pub fn fail(&mut self) -> Failed
-        ensures fault { self.new ≡ record self.old { faults = one_more self.old.faults } }
+        ensures fault { self.new ≡ after_fault self.old }
         ensures later { self.old.faults ≤ self.new.faults }
     {
         self.faults.rise()
@@ -92,8 +92,8 @@ impl Held {
 
     /// Adds bytes at the end. Where memory to grow is refused, the bytes stay and the call fails.
     pub fn append(&mut self, bytes: &[u8]) -> Result<(), Failed>
-        ensures ok { OnOk result (self.new ≡ record self.old { bytes = self.old.bytes ++ bytes.now }) }
-        ensures err { OnErr result (self.new ≡ record self.old { faults = one_more self.old.faults }) }
+        ensures ok { OnOk result (self.new ≡ holding (self.old.bytes ++ bytes.now) self.old) }
+        ensures err { OnErr result (self.new ≡ after_fault self.old) }
         ensures later { self.old.faults ≤ self.new.faults }
         ensures wanted { IsErr result → 0 < length bytes.now }
     {
@@ -107,8 +107,8 @@ impl Held {
     /// what is there stays where memory is refused.
     pub fn put(&mut self, at: usize, bytes: &[u8]) -> Result<(), Failed>
         requires { at ≤ length self.old.bytes }
-        ensures ok { OnOk result (self.new ≡ record self.old { bytes = replaced at bytes.now self.old.bytes }) }
-        ensures err { OnErr result (self.new ≡ record self.old { faults = one_more self.old.faults }) }
+        ensures ok { OnOk result (self.new ≡ holding (replaced at bytes.now self.old.bytes) self.old) }
+        ensures err { OnErr result (self.new ≡ after_fault self.old) }
         ensures later { self.old.faults ≤ self.new.faults }
         ensures wanted { IsErr result → length self.old.bytes < at + length bytes.now }
     {

@@ -1,8 +1,8 @@
-ghost use Rattle.std.specs.Prelude.{◌≡◌, ℕ, ◌+◌, ◌^◌, ◌≤◌, List, length, take, drop, Option, IfOk, IfSome, OnOk, OnErr};
+ghost use Rattle.std.specs.Prelude.{◌≡◌, ℕ, ◌+◌, ◌^◌, ◌≤◌, List, length, Option, IfOk, IfSome, OnOk, OnErr};
 ghost use Rattle.std.specs.Option.{option_map};
 ghost use Rattle.ostore_base.specs.Faults.{HasCause};
 ghost use Rattle.ostore_base.specs.Limits.{longest_disk};
-ghost use Rattle.ostore_base.specs.Disk.{replaced, IsTorn, IsSure, StaysSure, StaysSureOutside, KeepsSure};
+ghost use Rattle.ostore_base.specs.Disk.{replaced, StandsAt, IsTorn, IsSure, StaysSure, StaysSureOutside, KeepsSure};
 
 use crate::outside::Failed;
 
@@ -33,7 +33,7 @@ pub trait Disk {
     /// Reads the bytes at `at`. The range lies within the disk.
     fn read(&mut self, at: u64, into: &mut [u8]) -> Result<(), Failed>
         requires { IfSome (content self.old) (λ held. at + length into.old ≤ length held) }
-        ensures bytes { OnOk result (IfSome (content self.old) (λ held. into.new ≡ take (length into.old) (drop at held))) }
+        ensures bytes { OnOk result (IfSome (content self.old) (StandsAt at into.new)) }
         ensures content { content self.new ≡ content self.old }
         ensures sure { StaysSure (unsure self.old) (unsure self.new) }
         ensures cause { HasCause (faults self.old) (faults self.new) result };
