@@ -3,8 +3,8 @@ use Rattle.std.specs.Int.{w64, cast_unsigned}
 use Rattle.std.proofs.lemmas.Int.{to_z-of_z}
 use Rattle.byteorder.specs.Endian.{little_bytes}
 use Rattle.ostore_page_tags.specs.Numbers.{int_at, with_int}
-use Rattle.ostore_page_tags.proofs.ImageLaws.{int_at-with_int}
-use Rattle.ostore_page_tags.proofs.NumberLaws.{put_mid-replaced}
+use Rattle.ostore_page_tags.proofs.bytes.ImageLaws.{int_at-with_int}
+use Rattle.ostore_page_tags.proofs.bytes.NumberLaws.{put_mid-replaced}
 use Rattle.ostore_page_tags.proofs.numbers.put_i64.Goals as goal
 use borrow.Rule.Slice.PartMut.{put_mid}
 

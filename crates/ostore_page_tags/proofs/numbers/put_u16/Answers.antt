@@ -1,8 +1,8 @@
 use Rattle.std.proofs.Common.{◌-◌, ◌∙◌, ap, arith}
 use Rattle.byteorder.specs.Endian.{little_bytes}
 use Rattle.ostore_page_tags.specs.Numbers.{number_at}
-use Rattle.ostore_page_tags.proofs.ImageLaws.{number_at-with_number}
-use Rattle.ostore_page_tags.proofs.NumberLaws.{put_mid-replaced}
+use Rattle.ostore_page_tags.proofs.bytes.ImageLaws.{number_at-with_number}
+use Rattle.ostore_page_tags.proofs.bytes.NumberLaws.{put_mid-replaced}
 use Rattle.ostore_page_tags.proofs.numbers.put_u16.Goals as goal
 
 pub returns-clause-written : goal.returns-clause-written

@@ -6,14 +6,15 @@ use Rattle.std.proofs.lemmas.List.FromFn.{map-range_with_len_more}
 use Rattle.ostore_page_tags.specs.declared.page_header.PageHeader.{PageHeader}
 use Rattle.ostore_page_tags.specs.declared.tag_rows.Row.{Row}
 use Rattle.ostore_page_tags.specs.Header.{header_of, with_header}
-use Rattle.ostore_page_tags.specs.Rows.{row_place, row_in, state_in, with_row}
+use Rattle.ostore_page_tags.specs.Rows.{row_place, row_in, state_in}
+use Rattle.ostore_page_tags.specs.inside.WithRow.{with_row}
 use Rattle.ostore_page_tags.specs.Cells.{Cell, between, cell_to, cells_of}
 use Rattle.ostore_page_tags.specs.Rules.{is_tag, IsPage}
 use Rattle.ostore_page_tags.specs.Changes.{IsCellAsked, live_row, zeroed_cell, grown, AddsCell}
-use Rattle.ostore_page_tags.proofs.ImageLaws.{SameOn, SameOn-within, SameOn-trans, Keeps, number_at-same, between-same, with_header-spare, with_header-behind}
-use Rattle.ostore_page_tags.proofs.RangeLaws.{map-range-same}
-use Rattle.ostore_page_tags.proofs.PageShape.{Offsets, rows_in, end_in, offset_in, Shape, IsPage-shape, shape-IsPage, offset_below, offset_fours, end_above, stop_at, stop_more, stop_last, cell_range}
-use Rattle.ostore_page_tags.proofs.CellLaws.{ZeroOn-within, ZeroOn-same, between-zeros, row_in-same, state_in-same, cell_in, cells_are, cell_same, cell_made, IsRowWide, with_row-before, with_row-behind, row_in-with_row}
+use Rattle.ostore_page_tags.proofs.bytes.ImageLaws.{SameOn, SameOn-within, SameOn-trans, Keeps, number_at-same, between-same, with_header-spare, with_header-behind}
+use Rattle.ostore_page_tags.proofs.shape.RangeLaws.{map-range-same}
+use Rattle.ostore_page_tags.proofs.shape.PageShape.{Offsets, rows_in, end_in, offset_in, Shape, IsPage-shape, shape-IsPage, offset_below, offset_fours, end_above, stop_at, stop_more, stop_last, cell_range}
+use Rattle.ostore_page_tags.proofs.parts.CellLaws.{ZeroOn-within, ZeroOn-same, between-zeros, row_in-same, state_in-same, cell_in, cells_are, cell_same, cell_made, IsRowWide, with_row-before, with_row-behind, row_in-with_row}
 
 -- the row and the header of a cell were written into a page with room for them, and other bytes stay
 pub record IsGrown (old new : List ℕ) (size code serial : ℕ) : Type 0 where

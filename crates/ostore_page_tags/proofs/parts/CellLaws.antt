@@ -6,10 +6,11 @@ use Rattle.std.proofs.lemmas.List.{same_lists, get_or_default, get_or-replicate,
 use Rattle.ostore_page_tags.specs.declared.tag_rows.Row.{Row}
 use Rattle.ostore_page_tags.specs.Numbers.{number_at, with_number}
 use Rattle.ostore_page_tags.specs.Header.{header_of}
-use Rattle.ostore_page_tags.specs.Rows.{row_place, row_in, state_in, state_number, rows_of, with_row}
+use Rattle.ostore_page_tags.specs.Rows.{row_place, row_in, state_in, rows_of}
+use Rattle.ostore_page_tags.specs.inside.WithRow.{state_number, with_row}
 use Rattle.ostore_page_tags.specs.Cells.{Cell, between, cell_to, cells_from, cells_of}
-use Rattle.ostore_page_tags.proofs.ImageLaws.{SameOn, SameOn-within, number_at-same, length-between, between_read, header_same, length-with_number, Keeps, Keeps-refl, Keeps-trans, Keeps-within, keeps_before, keeps_behind, reads_kept}
-use Rattle.ostore_page_tags.proofs.PageShape.{ZeroOn, rows_in, end_in, stop_at}
+use Rattle.ostore_page_tags.proofs.bytes.ImageLaws.{SameOn, SameOn-within, number_at-same, length-between, between_read, header_same, length-with_number, Keeps, Keeps-refl, Keeps-trans, Keeps-within, keeps_before, keeps_behind, reads_kept}
+use Rattle.ostore_page_tags.proofs.shape.PageShape.{ZeroOn, rows_in, end_in, stop_at}
 
 -- ---- zeros
 

@@ -14,12 +14,12 @@ use Rattle.ostore_page_tags.specs.Rows.{row_place, row_in, state_in, rows_of}
 use Rattle.ostore_page_tags.specs.Cells.{Cell, between, cell_to, cells_of}
 use Rattle.ostore_page_tags.specs.Rules.{is_tag, IsPage}
 use Rattle.ostore_page_tags.specs.Changes.{zeroed_cell, dead_row, dead_at, MarksDead}
-use Rattle.ostore_page_tags.proofs.ImageLaws.{SameOn, SameOn-within, SameOn-trans, number_at-same, between-same, length-between, between_read, between-replaced_at, length-replaced_within, SameOn-replaced_before, SameOn-replaced_behind, length-with_number, number_at-with_number, SameOn-with_number_before, SameOn-with_number_behind}
-use Rattle.ostore_page_tags.proofs.RangeLaws.{map-range-same, map-map-range}
-use Rattle.ostore_page_tags.proofs.PageShape.{ZeroOn, Offsets, rows_in, end_in, offset_in, Shape, IsPage-shape, shape-IsPage, offset_above, offset_order, stop_at, stop_more, stop_last, cell_range, cell_before}
-use Rattle.ostore_page_tags.proofs.RowLaws.{from_place, find-goes_on, find-ends}
-use Rattle.ostore_page_tags.proofs.NthLaws.{slice_get-range}
-use Rattle.ostore_page_tags.proofs.CellLaws.{ZeroOn-same, between-zeros, header_of-same, row_same, row_in-same, state_in-same, cell_in, cells_are, cell_same, cell_made}
+use Rattle.ostore_page_tags.proofs.bytes.ImageLaws.{SameOn, SameOn-within, SameOn-trans, number_at-same, between-same, length-between, between_read, between-replaced_at, length-replaced_within, SameOn-replaced_before, SameOn-replaced_behind, length-with_number, number_at-with_number, SameOn-with_number_before, SameOn-with_number_behind}
+use Rattle.ostore_page_tags.proofs.shape.RangeLaws.{map-range-same, map-map-range}
+use Rattle.ostore_page_tags.proofs.shape.PageShape.{ZeroOn, Offsets, rows_in, end_in, offset_in, Shape, IsPage-shape, shape-IsPage, offset_above, offset_order, stop_at, stop_more, stop_last, cell_range, cell_before}
+use Rattle.ostore_page_tags.proofs.walks.RowLaws.{from_place, find-goes_on, find-ends}
+use Rattle.ostore_page_tags.proofs.walks.NthLaws.{slice_get-range}
+use Rattle.ostore_page_tags.proofs.parts.CellLaws.{ZeroOn-same, between-zeros, header_of-same, row_same, row_in-same, state_in-same, cell_in, cells_are, cell_same, cell_made}
 
 -- where the cell of row i stops
 abbrev pub stop_in : List ℕ → ℕ → ℕ

@@ -12,12 +12,12 @@ use Rattle.ostore_page_tags.specs.Rows.{row_place, row_in, rows_of}
 use Rattle.ostore_page_tags.specs.Cells.{Cell, between, cell_to, cells_of}
 use Rattle.ostore_page_tags.specs.Rules.{is_tag, IsPage}
 use Rattle.ostore_page_tags.specs.Changes.{edited_at, EditsCell}
-use Rattle.ostore_page_tags.proofs.ImageLaws.{SameOn, SameOn-within, Keeps, number_at-same, between-same, length-replaced_within, between-replaced_within, SameOn-replaced_before, SameOn-replaced_behind, with_header-spare, with_header-behind, IsHeaderWide, header_of-with_header}
-use Rattle.ostore_page_tags.proofs.RangeLaws.{map-range-same, map-map-range}
-use Rattle.ostore_page_tags.proofs.PageShape.{Offsets, rows_in, end_in, offset_in, Shape, IsPage-shape, shape-IsPage, offset_order, end_above, stop_at, stop_more, stop_last, IsCellRange, cell_range, cell_before}
-use Rattle.ostore_page_tags.proofs.CellLaws.{ZeroOn-same, header_of-same, row_in-same, state_in-same, cell_in, cells_are, cell_same, cell_made}
-use Rattle.ostore_page_tags.proofs.NthLaws.{slice_get-range, rows_counted}
-use Rattle.ostore_page_tags.proofs.DeadLaws.{stop_in, offsets_moved, cell_end-stop}
+use Rattle.ostore_page_tags.proofs.bytes.ImageLaws.{SameOn, SameOn-within, Keeps, number_at-same, between-same, length-replaced_within, between-replaced_within, SameOn-replaced_before, SameOn-replaced_behind, with_header-spare, with_header-behind, IsHeaderWide, header_of-with_header}
+use Rattle.ostore_page_tags.proofs.shape.RangeLaws.{map-range-same, map-map-range}
+use Rattle.ostore_page_tags.proofs.shape.PageShape.{Offsets, rows_in, end_in, offset_in, Shape, IsPage-shape, shape-IsPage, offset_order, end_above, stop_at, stop_more, stop_last, IsCellRange, cell_range, cell_before}
+use Rattle.ostore_page_tags.proofs.parts.CellLaws.{ZeroOn-same, header_of-same, row_in-same, state_in-same, cell_in, cells_are, cell_same, cell_made}
+use Rattle.ostore_page_tags.proofs.walks.NthLaws.{slice_get-range, rows_counted}
+use Rattle.ostore_page_tags.proofs.changes.DeadLaws.{stop_in, offsets_moved, cell_end-stop}
 
 -- what the rules read is as it was
 pub record IsAlike (old new : List ℕ) : Type 0 where

@@ -10,9 +10,9 @@ use Rattle.ostore_page_tags.specs.Header.{header_of}
 use Rattle.ostore_page_tags.specs.Rows.{row_in, rows_of}
 use Rattle.ostore_page_tags.specs.Cells.{Cell, between, cells_of}
 use Rattle.ostore_page_tags.specs.Rules.{IsPage}
-use Rattle.ostore_page_tags.proofs.ImageLaws.{length-between}
-use Rattle.ostore_page_tags.proofs.PageShape.{rows_in, end_in, offset_in, stop_at, stop_more, stop_last, cell_range, IsPage-shape}
-use Rattle.ostore_page_tags.proofs.CellLaws.{cell_in, cells_are}
+use Rattle.ostore_page_tags.proofs.bytes.ImageLaws.{length-between}
+use Rattle.ostore_page_tags.proofs.shape.PageShape.{rows_in, end_in, offset_in, stop_at, stop_more, stop_last, cell_range, IsPage-shape}
+use Rattle.ostore_page_tags.proofs.parts.CellLaws.{cell_in, cells_are}
 
 pub slice_get-range : {X : Type 0} (f : ℕ → X) (n i : ℕ) → i < n → slice_get (map f (range_with_len 0 n)) i ≡ Some (f i)
 slice_get-range f n i h = slice_get_read (map f (range_with_len 0 n)) n i (f i) (sym (length-map-range_with_len f 0 n)) h (sym (get_or-map-range_with_len f 0 n i i (f i) h (omega arith)))
