@@ -1,6 +1,6 @@
 -- The tag rows of a page. They stand at its end, the first one last, and each has the cell's offset, a code, a
 -- state and a serial.
-use Rattle.std.specs.Prelude.{ℕ, ◌+◌, ◌-◌, ◌*◌, Bool, ◌==◌, List, map, Option}
+use Rattle.std.specs.Prelude.{ℕ, ◌+◌, ◌-◌, ◌*◌, ◌==◌, List, map, Option}
 use Rattle.std.specs.List.{range_with_len, find}
 use Rattle.ostore_base.specs.declared.page.TheConstants.{PAGE_SIZE}
 use Rattle.ostore_page_tags.specs.declared.layout.TheConstants.{ROW_BYTES, CODE_IN_ROW, STATE_IN_ROW, SERIAL_IN_ROW, LIVE_STATE}

@@ -3,6 +3,8 @@ use Rattle.std.proofs.Common.{◌≡◌, ℕ, zero, suc, ◌+◌, ◌-◌, ◌*�
 use Rattle.std.specs.List.{range_with_len, flat_map, All, AllPairs}
 use Rattle.std.proofs.lemmas.List.{append-nil, take-append-drop, take-take, drop-drop, drop-take}
 use Rattle.std.proofs.lemmas.List.FromFn.{length-map-range_with_len, get_or-map-range_with_len}
+use Rattle.ostore_base.specs.declared.page.TheConstants.{PAGE_SIZE}
+use Rattle.ostore_page_tags.specs.declared.layout.TheConstants.{ROW_BYTES}
 use Rattle.ostore_page_tags.specs.declared.tag_rows.Row.{Row}
 use Rattle.ostore_page_tags.specs.Rows.{row_in}
 use Rattle.ostore_page_tags.specs.Cells.{Cell, between, cells_of, free_bytes, AreApart, parts_of}
@@ -121,7 +123,7 @@ IsPage-parts bytes page =
     let shape = IsPage-shape bytes page in
     let rows : ℕ = rows_in bytes in
     let end : ℕ = end_in bytes in
-    let stop : ℕ = 4096 - 8 * rows_in bytes in
+    let stop : ℕ = PAGE_SIZE - ROW_BYTES * rows_in bytes in
     let room = shape.room in
     let whole = shape.whole in
     let above : 32 ≤ end_in bytes = end_above rows end (offset_in bytes) shape.offsets in

@@ -1,10 +1,12 @@
 -- Good pages with the same header and the same cells are the same.
-use Rattle.std.proofs.Common.{◌≡◌, ℕ, zero, suc, ◌+◌, ◌-◌, ◌*◌, ◌/◌, ◌<◌, ◌≤◌, max, Bool, true, false, eqb, List, length, get_or, drop, Option, Some, refl, sym, ap, subst, ◌∙◌, inl, inr, arith}
+use Rattle.std.proofs.Common.{◌≡◌, ℕ, zero, suc, ◌+◌, ◌-◌, ◌*◌, ◌/◌, ◌<◌, ◌≤◌, eqb, List, get_or, drop, Some, refl, sym, ap, subst, ◌∙◌, inl, inr, arith}
 use Rattle.std.specs.List.{slice_get, flat_map}
 use Rattle.std.proofs.lemmas.Bool.{cases_lt, cases_eq}
 use Rattle.std.proofs.lemmas.List.{same_lists, get_or-drop, get_or_default}
 use Rattle.std.proofs.lemmas.Option.{same_Some}
 use Rattle.byteorder.specs.Endian.{little_from}
+use Rattle.ostore_base.specs.declared.page.TheConstants.{PAGE_SIZE}
+use Rattle.ostore_page_tags.specs.declared.layout.TheConstants.{ROW_BYTES}
 use Rattle.ostore_page_tags.specs.declared.page_header.PageHeader.{PageHeader}
 use Rattle.ostore_page_tags.specs.declared.tag_rows.Row.{Row}
 use Rattle.ostore_page_tags.specs.Numbers.{number_at}
@@ -96,7 +98,7 @@ same_row first second rows cells i below =
     ap (λ l. slice_get l i) (cells_are (rows_in second) (end_in second) second refl refl) ∙ slice_get-range (cell_in (rows_in second) (end_in second) second (row_in second)) (rows_in second) i (omega arith) in
     ap (λ (c : Cell). c.row) (same_Some _ _ (sym one ∙ ap (λ (l : List Cell). slice_get l i) cells ∙ two))
 
-same_row_bytes : (first second : List ℕ) (i : ℕ) → AreBytes first → AreBytes second → state_in first i ≤ 1 → state_in second i ≤ 1 → row_in first i ≡ row_in second i → SameOn (row_place i) (row_place i + 8) first second
+same_row_bytes : (first second : List ℕ) (i : ℕ) → AreBytes first → AreBytes second → state_in first i ≤ 1 → state_in second i ≤ 1 → row_in first i ≡ row_in second i → SameOn (row_place i) (row_place i + ROW_BYTES) first second
 same_row_bytes first second i one two small also same =
     let at : ℕ = row_place i in
     let state : state_in first i ≡ state_in second i = same_state (state_in first i) (state_in second i) small also (ap (λ (r : Row). r.live) same) in
@@ -109,7 +111,7 @@ same_row_bytes first second i one two small also same =
     (SameOn-within (at + 3) (at + 3 + 1) (at + 3) (at + 4) first second mark (omega arith) (omega arith)))
     (SameOn-within (at + 4) (at + 4 + 4) (at + 4) (at + 8) first second serial (omega arith) (omega arith))
 
-same_rows : (first second : List ℕ) → Shape first → Shape second → AreBytes first → AreBytes second → rows_in first ≡ rows_in second → cells_of first ≡ cells_of second → SameOn (4096 - 8 * rows_in first) 4096 first second
+same_rows : (first second : List ℕ) → Shape first → Shape second → AreBytes first → AreBytes second → rows_in first ≡ rows_in second → cells_of first ≡ cells_of second → SameOn (PAGE_SIZE - ROW_BYTES * rows_in first) PAGE_SIZE first second
 same_rows first second shape other one two rows cells =
     let room = shape.room in
     record {
@@ -129,7 +131,7 @@ same_pages first second page other one two header cells =
     let rows : rows_in first ≡ rows_in second = ap (λ (h : PageHeader). h.rows) header in
     let end : end_in first ≡ end_in second = ap (λ (h : PageHeader). h.end) header in
     let above : 32 ≤ end_in first = end_above (rows_in first) (end_in first) (offset_in first) shape.offsets in
-    let stop : ℕ = 4096 - 8 * rows_in first in
+    let stop : ℕ = PAGE_SIZE - ROW_BYTES * rows_in first in
     let fields = same_fields first second one two header (shape.spare ∙ sym also.spare) in
     let tail = SameOn-zeros 20 32 first second shape.tail also.tail in
     let same : between 32 (end_in first) first ≡ between 32 (end_in first) second =
@@ -138,7 +140,7 @@ same_pages first second page other one two header cells =
     let gap : SameOn (end_in first) stop first second = record {
       bytes = λ k low high. shape.gap.zeros k (omega arith) (omega arith) ∙ sym (also.gap.zeros k (omega arith) (omega arith));
     } in
-    let all = SameOn-join 0 stop 4096 first second (SameOn-join 0 (end_in first) stop first second (SameOn-join 0 32 (end_in first) first second (SameOn-join 0 20 32 first second fields tail) held) gap)
+    let all = SameOn-join 0 stop PAGE_SIZE first second (SameOn-join 0 (end_in first) stop first second (SameOn-join 0 32 (end_in first) first second (SameOn-join 0 20 32 first second fields tail) held) gap)
     (same_rows first second shape also one two rows cells) in
     same_lists first second (whole ∙ sym as_whole) (λ k d below.
     get_or_default first k d 0 below ∙ all.bytes k (omega arith) (omega arith) ∙ get_or_default second k 0 d (omega arith))

@@ -3,6 +3,8 @@
 use Rattle.std.proofs.Common.{◌≡◌, ℕ, zero, suc, ◌+◌, ◌-◌, ◌*◌, ◌%◌, ◌<◌, ◌≤◌, max, Bool, true, false, ◌&&◌, not, cond, eqb, leb, ltb, List, [], ◌∷◌, length, get_or, map, Some, None, refl, sym, ap, subst, ◌∙◌, arith, inl, inr}
 use Rattle.std.specs.List.{range_with_len, list_all}
 use Rattle.std.proofs.lemmas.Bool.{and_parts, and_from, eqb-true, eq-eqb, leb-true, le-leb, lt-ltb, le-ltb, cases_lt}
+use Rattle.ostore_base.specs.declared.page.TheConstants.{PAGE_SIZE}
+use Rattle.ostore_page_tags.specs.declared.layout.TheConstants.{ROW_BYTES}
 use Rattle.ostore_page_tags.specs.declared.check.PageFault.TheVariants.{BadHeader, RowsOverlap, RowOrder, BadType, CellPastEnd}
 use Rattle.ostore_page_tags.specs.Numbers.{number_at}
 use Rattle.ostore_page_tags.specs.Header.{header_of}
@@ -34,12 +36,12 @@ abbrev pub offset_in : List ℕ → ℕ → ℕ
 offset_in bytes i = (row_in bytes i).offset
 
 pub record Shape (bytes : List ℕ) : Type 0 where
-  pub whole : length bytes ≡ 4096
+  pub whole : length bytes ≡ PAGE_SIZE
   pub kind : (header_of bytes).kind ≡ 2
   pub spare : number_at 2 6 bytes ≡ 0
   pub tail : ZeroOn 20 32 bytes
-  pub gap : ZeroOn (max 32 (end_in bytes)) (4096 - 8 * rows_in bytes) bytes
-  pub room : 8 * rows_in bytes + end_in bytes ≤ 4096
+  pub gap : ZeroOn (max 32 (end_in bytes)) (PAGE_SIZE - ROW_BYTES * rows_in bytes) bytes
+  pub room : ROW_BYTES * rows_in bytes + end_in bytes ≤ PAGE_SIZE
   pub offsets : Offsets (rows_in bytes) (end_in bytes) (offset_in bytes)
   pub states : (i : ℕ) → i < rows_in bytes → state_in bytes i ≤ 1
   pub tags : (i : ℕ) → i < rows_in bytes → is_tag (row_in bytes i).code (row_in bytes i).serial ≡ true
@@ -122,8 +124,8 @@ IsPage-shape bytes page =
       kind = eqb-true _ 2 h3.0;
       spare = eqb-true _ 0 h3.1;
       tail = ZeroOn-between 20 32 bytes h2.1;
-      gap = ZeroOn-between (max 32 (end_in bytes)) (4096 - 8 * n) bytes h1.1;
-      room = leb-true _ 4096 rules.1;
+      gap = ZeroOn-between (max 32 (end_in bytes)) (PAGE_SIZE - ROW_BYTES * n) bytes h1.1;
+      room = leb-true _ PAGE_SIZE rules.1;
       offsets = offsets_taken bytes o2.0 o2.1 e1.0 (eqb-true _ 0 e1.1);
       states = λ i below. leb-true _ 1 (list_all_at-range (λ state. leb state 1) (state_in bytes) 0 n o1.1 i (omega arith) (omega arith));
       tags = λ i below. list_all_at-range (λ row. is_tag row.code row.serial) (row_in bytes) 0 n rules.3 i (omega arith) (omega arith);
@@ -144,14 +146,14 @@ shape-IsPage bytes shape =
     (and_from (eqb (header_of bytes).kind 2 && eqb (number_at 2 6 bytes) 0) (are_zero (between 20 32 bytes))
     (and_from (eqb (header_of bytes).kind 2) (eqb (number_at 2 6 bytes) 0) (eq-eqb _ 2 shape.kind) (eq-eqb _ 0 shape.spare))
     (between-ZeroOn 20 32 bytes (omega arith) shape.tail))
-    (between-ZeroOn (max 32 (end_in bytes)) (4096 - 8 * n) bytes (omega arith) shape.gap) in
+    (between-ZeroOn (max 32 (end_in bytes)) (PAGE_SIZE - ROW_BYTES * n) bytes (omega arith) shape.gap) in
     let order : are_rows_in_order bytes ≡ true =
     and_from (begin_at 32 (offsets_of bytes) && rise_by_step (offsets_of bytes)) (list_all (λ state. leb state 1) (states_of bytes))
     (and_from (begin_at 32 (offsets_of bytes)) (rise_by_step (offsets_of bytes)) begins rises)
     (list_all-range (λ state. leb state 1) (state_in bytes) 0 n (λ i low high. le-leb _ 1 (shape.states i (omega arith)))) in
     let types : have_rows_types bytes ≡ true = list_all-range (λ row. is_tag row.code row.serial) (row_in bytes) 0 n (λ i low high. shape.tags i (omega arith)) in
     let last : is_end_behind_cells bytes ≡ true = and_from (end_behind (end_in bytes) (offsets_of bytes)) (eqb (end_in bytes % 4) 0) ends (eq-eqb _ 0 offsets.end_fours) in
-    record { whole = whole; lawful = lawful_from bytes header (le-leb _ 4096 shape.room) order types last }
+    record { whole = whole; lawful = lawful_from bytes header (le-leb _ PAGE_SIZE shape.room) order types last }
 
 -- ---- what follows for offsets
 

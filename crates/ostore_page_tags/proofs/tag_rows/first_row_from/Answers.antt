@@ -1,4 +1,4 @@
-use Rattle.std.proofs.Common.{◌+◌, ◌-◌, ◌/◌, ◌<◌, ◌≤◌, arith}
+use Rattle.std.proofs.Common.{◌+◌, ◌-◌, ◌/◌, ◌<◌, arith}
 use Rattle.ostore_page_tags.proofs.walks.NthLaws.{rows_fit}
 use Rattle.ostore_page_tags.proofs.walks.PartedRows.{between_later, between_earlier}
 use Rattle.ostore_page_tags.proofs.tag_rows.first_row_from.Goals as goal
