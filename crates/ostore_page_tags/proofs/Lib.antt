@@ -1,11 +1,5 @@
-pub mod NumberLaws
-pub mod RowLaws
-pub mod ImageLaws
-pub mod RangeLaws
-pub mod PageShape
-pub mod CellLaws
-pub mod NthLaws
-pub mod AddLaws
-pub mod DeadLaws
-pub mod ApartLaws
-pub mod EditLaws
+pub mod bytes
+pub mod shape
+pub mod walks
+pub mod parts
+pub mod changes

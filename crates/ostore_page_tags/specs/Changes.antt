@@ -1,7 +1,9 @@
 -- What adding a cell and marking a row dead make of a page.
 use Rattle.std.specs.Prelude.{◌≡◌, ◌≤◌, ◌<◌, ℕ, ◌+◌, ◌%◌, true, false, ◌==◌, if◌then◌else◌, IsTrue, List, [], ◌∷◌, ◌++◌, length, map, replicate}
+use Rattle.ostore_page_tags.specs.declared.layout.TheConstants.{CELL_STEP}
 use Rattle.ostore_page_tags.specs.declared.page_header.PageHeader.{PageHeader}
 use Rattle.ostore_page_tags.specs.declared.tag_rows.Row.{Row}
+use Rattle.ostore_page_tags.specs.Limits.{largest_cell}
 use Rattle.ostore_page_tags.specs.Header.{header_of}
 use Rattle.ostore_page_tags.specs.Cells.{Cell, cells_of}
 use Rattle.ostore_page_tags.specs.Rules.{IsPage, is_tag}
@@ -9,8 +11,8 @@ use Rattle.ostore_page_tags.specs.Rules.{IsPage, is_tag}
 -- what may be asked for: a size of a cell, and a code with the serial that suits it
 pub record IsCellAsked (size code serial : ℕ) : Type 0 where
   pub some : 0 < size
-  pub fours : size % 4 ≡ 0
-  pub most : size ≤ 1000
+  pub fours : size % CELL_STEP ≡ 0
+  pub most : size ≤ largest_cell
   pub tag : IsTrue (is_tag code serial)
 
 -- a live row at an offset
@@ -35,7 +37,8 @@ grown header size = record {
 -- a cell of zeros was added behind the last one, with its row, and all else is as it was
 pub record AddsCell (old new : List ℕ) (size code serial : ℕ) : Type 0 where
   pub header : header_of new ≡ grown (header_of old) size
-  pub cells : cells_of new ≡ cells_of old ++ zeroed_cell (live_row (header_of old).end code serial) size ∷ []
+  pub cells : cells_of new
+      ≡ cells_of old ++ zeroed_cell (live_row (header_of old).end code serial) size ∷ []
   pub page : IsPage new
 
 -- the row as a dead one
@@ -44,7 +47,8 @@ dead_row row = record { offset = row.offset; code = row.code; live = false; seri
 
 -- the cell at this offset as a dead one, and any other cell as it is
 abbrev pub dead_at : ℕ → Cell → Cell
-dead_at offset cell = if cell.row.offset == offset then zeroed_cell (dead_row cell.row) (length cell.bytes) else cell
+dead_at offset cell =
+    if cell.row.offset == offset then zeroed_cell (dead_row cell.row) (length cell.bytes) else cell
 
 -- the row of an offset is dead now and its cell is zeros, and all else is as it was
 pub record MarksDead (old new : List ℕ) (offset : ℕ) : Type 0 where
@@ -54,7 +58,8 @@ pub record MarksDead (old new : List ℕ) (offset : ℕ) : Type 0 where
 
 -- the cell at this offset with other bytes, and any other cell as it is
 abbrev pub edited_at : ℕ → List ℕ → Cell → Cell
-edited_at offset bytes cell = if cell.row.offset == offset then record { row = cell.row; bytes = bytes } else cell
+edited_at offset bytes cell =
+    if cell.row.offset == offset then record { row = cell.row; bytes = bytes } else cell
 
 -- the bytes of the cell at an offset are these now, and all else is as it was
 pub record EditsCell (old new : List ℕ) (offset : ℕ) (bytes : List ℕ) : Type 0 where

@@ -1,55 +1,81 @@
 //! Whether an image is a good page of objects.
 
-ghost use Rattle.std.specs.Prelude.{◌≡◌, ◌↔◌, ◌*◌, ◌≤◌, nat_le, IsOk};
+ghost use Rattle.std.specs.Prelude.{◌≡◌, ◌↔◌, nat_le, IsOk, Some};
 ghost use Rattle.std.specs.List.{list_all};
-ghost use Rattle.ostore_base.specs.declared.page.TheConstants.{PAGE_SIZE};
 ghost use Rattle.ostore_page_tags.specs.Header.{header_of};
 ghost use Rattle.ostore_page_tags.specs.Rows.{states_of};
-ghost use Rattle.ostore_page_tags.specs.Rules.{IsPage, fault_of, first_fault, has_good_header, have_rows_room, are_rows_in_order, have_rows_types, is_end_behind_cells, are_zero, gap_of, begin_at, rise_by_four, offsets_of, is_tag, end_behind};
+ghost use Rattle.ostore_page_tags.specs.Rules.{IsPage, fault_of, first_fault, has_good_header, have_rows_room, are_rows_in_order, have_rows_types, is_end_behind_cells, are_zero, gap_of, begin_at, rise_by_step, offsets_of, is_tag, end_behind};
+ghost use Rattle.ostore_page_tags.specs.FaultNames.{fault_number, fault_name, fault_text};
+ghost use Rattle.ostore_page_tags.specs.inside.RowsFit.{RowsFit};
 
 use crate::laws::image_is_whole;
+use crate::layout::{
+    CELL_STEP, FIELDS_END, HEADER_BYTES, LIVE_STATE, OBJECTS_KIND, ROW_BYTES, SET_CHUNK, SPARE_AT,
+    TEXT_INDEX_CHUNK,
+};
 use crate::numbers::get_u16;
 use crate::page_header::header;
-use crate::tag_rows::{ROW_BYTES, stored_row, stored_state};
+use crate::tag_rows::{stored_row, stored_state};
 use ostore_base::{PAGE_SIZE, PageImage};
-use thiserror::Error;
+use std::fmt;
 
 /// The first rule of a page of objects that an image breaks. The rules are tried in this order.
-#[derive(Clone, Copy, Debug, PartialEq, Eq, Error)]
+#[derive(Clone, Copy, Debug, PartialEq, Eq)]
 pub enum PageFault {
     /// The kind isn't 2, or a byte of the header that has no field, or one between the cells and the
     /// rows, isn't zero.
-    #[error("BadHeader")]
     BadHeader,
     /// The rows would reach into the cells.
-    #[error("RowsOverlap")]
     RowsOverlap,
     /// The first cell isn't behind the header, or the offsets don't rise by multiples of 4, or a state is
     /// neither live nor dead.
-    #[error("RowOrder")]
     RowOrder,
     /// A code is none, or an object has no serial, or a chunk or descriptor has one.
-    #[error("BadType")]
     BadType,
     /// The last cell has no bytes, or the cells' end is no multiple of 4, or is wrong on an empty page.
-    #[error("CellPastEnd")]
     CellPastEnd,
 }
 
-/// The kind of a page of objects.
-const OBJECTS: u8 = 2;
+impl PageFault {
+    /// The number of the broken rule.
+    pub fn number(&self) -> u8
+        ensures { result ≡ fault_number self.now }
+    {
+        match self {
+            PageFault::BadHeader => 1,
+            PageFault::RowsOverlap => 2,
+            PageFault::RowOrder => 3,
+            PageFault::BadType => 4,
+            PageFault::CellPastEnd => 5,
+        }
+    }
 
-/// The bytes of the header, behind which the first cell begins.
-const HEADER_BYTES: u16 = 32;
+    /// The name of the broken rule.
+    pub fn name(&self) -> &'static str
+        ensures { result.now ≡ fault_name self.now }
+    {
+        match self {
+            PageFault::BadHeader => "BadHeader",
+            PageFault::RowsOverlap => "RowsOverlap",
+            PageFault::RowOrder => "RowOrder",
+            PageFault::BadType => "BadType",
+            PageFault::CellPastEnd => "CellPastEnd",
+        }
+    }
+}
 
-/// Where the two bytes stand that no field has, between the end of the cells and the next page.
-const SPARE_AT: u16 = 6;
+/// Writes `rule`, the number and the name.
+impl fmt::Display for PageFault {
+    ghost output = { λ fault. Some (fault_text fault) };
 
-/// Behind the last field the header has no field more.
-const FIELDS_END: usize = 20;
+    fn fmt<W: fmt::Write>(&self, f: &mut fmt::Formatter<W>) -> fmt::Result {
+        let number = self.number();
+        let name = self.name();
+        write!(f, "rule {number} {name}")
+    }
+}
 
-/// A cell begins and ends at a multiple of this.
-const CELL_STEP: u16 = 4;
+impl std::error::Error for PageFault {}
 
 /// Whether all bytes are zero.
 fn are_zero(bytes: &[u8]) -> bool
@@ -72,9 +98,9 @@ fn is_gap_zero(image: &PageImage) -> bool
 fn has_good_header(image: &PageImage) -> bool
     ensures { result ≡ has_good_header image.now.bytes }
 {
-    header(image).kind == OBJECTS
+    header(image).kind == OBJECTS_KIND
         && get_u16(image, SPARE_AT) == 0
-        && are_zero(&image.bytes[FIELDS_END..usize::from(HEADER_BYTES)])
+        && are_zero(&image.bytes[usize::from(FIELDS_END)..usize::from(HEADER_BYTES)])
         && is_gap_zero(image)
 }
 
@@ -88,16 +114,16 @@ fn have_rows_room(image: &PageImage) -> bool
 
 /// Whether the first cell, if any, begins behind the header.
 fn do_cells_begin(image: &PageImage) -> bool
-    requires { 8 * (header_of image.now.bytes).rows ≤ PAGE_SIZE }
-    ensures { result ≡ begin_at 32 (offsets_of image.now.bytes) }
+    requires { RowsFit image.now.bytes }
+    ensures { result ≡ begin_at HEADER_BYTES (offsets_of image.now.bytes) }
 {
     header(image).rows == 0 || stored_row(image, 0).offset == HEADER_BYTES
 }
 
 /// Whether each offset but the first is a multiple of 4 above the one before it.
 fn do_offsets_rise(image: &PageImage) -> bool
-    requires { 8 * (header_of image.now.bytes).rows ≤ PAGE_SIZE }
-    ensures { result ≡ rise_by_four (offsets_of image.now.bytes) }
+    requires { RowsFit image.now.bytes }
+    ensures { result ≡ rise_by_step (offsets_of image.now.bytes) }
 {
     for i in 0..header(image).rows.saturating_sub(1) {
         let row = stored_row(image, i);
@@ -111,11 +137,11 @@ fn do_offsets_rise(image: &PageImage) -> bool
 
 /// Whether each row is live or dead.
 fn have_rows_states(image: &PageImage) -> bool
-    requires { 8 * (header_of image.now.bytes).rows ≤ PAGE_SIZE }
-    ensures { result ≡ list_all (λ state. nat_le state 1) (states_of image.now.bytes) }
+    requires { RowsFit image.now.bytes }
+    ensures { result ≡ list_all (λ state. nat_le state LIVE_STATE) (states_of image.now.bytes) }
 {
     for i in 0..header(image).rows {
-        if stored_state(image, i) > 1 {
+        if stored_state(image, i) > LIVE_STATE {
             return false;
         }
     }
@@ -124,11 +150,14 @@ fn have_rows_states(image: &PageImage) -> bool
 
 /// Whether the first cell is behind the header, the offsets rise, and each row is live or dead.
 fn are_rows_in_order(image: &PageImage) -> bool
-    requires { 8 * (header_of image.now.bytes).rows ≤ PAGE_SIZE }
+    requires { RowsFit image.now.bytes }
     ensures { result ≡ are_rows_in_order image.now.bytes }
 {
     do_cells_begin(image) && do_offsets_rise(image) && have_rows_states(image)
 }
+
+/// How many types a schema has at most.
+const MOST_TYPES: u8 = 64;
 
 /// Whether the code is that of a type and there is a serial, or it is that of a chunk or a descriptor
 /// and there is none.
@@ -136,15 +165,15 @@ fn is_tag(code: u8, serial: u32) -> bool
     ensures { result ≡ is_tag code serial }
 {
     match code {
-        1..=64 => serial != 0,
-        240..=246 => serial == 0,
+        1..=MOST_TYPES => serial != 0,
+        SET_CHUNK..=TEXT_INDEX_CHUNK => serial == 0,
         _ => false,
     }
 }
 
 /// Whether each row has a code, and a serial exactly where it is an object's.
 fn have_rows_types(image: &PageImage) -> bool
-    requires { 8 * (header_of image.now.bytes).rows ≤ PAGE_SIZE }
+    requires { RowsFit image.now.bytes }
     ensures { result ≡ have_rows_types image.now.bytes }
 {
     for i in 0..header(image).rows {
@@ -158,7 +187,7 @@ fn have_rows_types(image: &PageImage) -> bool
 
 /// Whether the last cell has bytes, or the end is the header's where there is no cell.
 fn is_last_offset_below_end(image: &PageImage) -> bool
-    requires { 8 * (header_of image.now.bytes).rows ≤ PAGE_SIZE }
+    requires { RowsFit image.now.bytes }
     ensures { result ≡ end_behind (header_of image.now.bytes).end (offsets_of image.now.bytes) }
 {
     let header = header(image);
@@ -171,7 +200,7 @@ fn is_last_offset_below_end(image: &PageImage) -> bool
 
 /// Whether the last cell has bytes, and the cells end at a multiple of 4.
 fn is_end_behind_cells(image: &PageImage) -> bool
-    requires { 8 * (header_of image.now.bytes).rows ≤ PAGE_SIZE }
+    requires { RowsFit image.now.bytes }
     ensures { result ≡ is_end_behind_cells image.now.bytes }
 {
     is_last_offset_below_end(image) && header(image).end % CELL_STEP == 0

@@ -4,23 +4,9 @@ ghost use Rattle.std.specs.Prelude.{◌≡◌};
 ghost use Rattle.ostore_page_tags.specs.Header.{header_of, with_header};
 
 use crate::laws::image_is_whole;
+use crate::layout::{END_AT, KIND_AT, LAST_PAGE_AT, LAST_SERIAL_AT, NEXT_AT, ROWS_AT, SEGMENT_AT};
 use crate::numbers::{get_u8, get_u16, get_u32, put_u8, put_u16, put_u32};
 use ostore_base::PageImage;
-
-// Where the fields stand, in bytes from the page's start.
-const KIND_AT: u16 = 0;
-
-const SEGMENT_AT: u16 = 1;
-
-const ROWS_AT: u16 = 2;
-
-const END_AT: u16 = 4;
-
-const NEXT_AT: u16 = 8;
-
-const LAST_SERIAL_AT: u16 = 12;
-
-const LAST_PAGE_AT: u16 = 16;
 
 /// The fields of a page's header.
 #[derive(Clone, Copy, Debug, PartialEq, Eq)]

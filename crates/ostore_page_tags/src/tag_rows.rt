@@ -1,13 +1,15 @@
 //! Tag rows, read. They stand at the end of the page, the first one last.
 
-ghost use Rattle.std.specs.Prelude.{◌≡◌, ◌≢◌, ◌+◌, ◌*◌, ◌<◌, ◌≤◌, length, Some};
+ghost use Rattle.std.specs.Prelude.{◌≡◌, ◌≢◌, ◌+◌, ◌<◌, length, Some};
 ghost use Rattle.std.specs.List.{slice_get};
 ghost use Rattle.std.specs.Option.{option_map};
-ghost use Rattle.ostore_base.specs.declared.page.TheConstants.{PAGE_SIZE};
 ghost use Rattle.ostore_page_tags.specs.Rows.{row_place, row_in, state_in, rows_of, row_at, row_of};
 ghost use Rattle.ostore_page_tags.specs.Cells.{cells_of};
 ghost use Rattle.ostore_page_tags.specs.Rules.{IsPage};
+ghost use Rattle.ostore_page_tags.specs.inside.RowsFit.{RowFits};
+ghost use Rattle.ostore_page_tags.specs.inside.PartsRows.{PartsRows};
 
+use crate::layout::{CODE_IN_ROW, LIVE_STATE, ROW_BYTES, SERIAL_IN_ROW, STATE_IN_ROW};
 use crate::numbers::{get_u8, get_u16, get_u32};
 use crate::page_header::header;
 use ostore_base::{PAGE_SIZE, PageImage};
@@ -25,24 +27,9 @@ pub struct Row {
     pub serial: u32,
 }
 
-/// The bytes of a row.
-pub(crate) const ROW_BYTES: u16 = 8;
-
-/// Where the code stands in a row, behind the offset.
-pub(crate) const CODE_IN_ROW: u16 = 2;
-
-/// Where the state stands in a row.
-pub(crate) const STATE_IN_ROW: u16 = 3;
-
-/// Where the serial stands in a row.
-pub(crate) const SERIAL_IN_ROW: u16 = 4;
-
-/// The state of a live row.
-const LIVE: u8 = 1;
-
 /// Where row i stands.
 pub(crate) fn row_place(i: u16) -> u16
-    requires { 8 * (i + 1) ≤ PAGE_SIZE }
+    requires { RowFits i }
     ensures { result ≡ row_place i }
 {
     PAGE_SIZE as u16 - ROW_BYTES * (i + 1)
@@ -50,24 +37,32 @@ pub(crate) fn row_place(i: u16) -> u16
 
 /// Row i as it is stored, in any image.
 pub(crate) fn stored_row(image: &PageImage, i: u16) -> Row
-    requires { 8 * (i + 1) ≤ PAGE_SIZE }
+    requires { RowFits i }
     ensures { result ≡ row_in image.now.bytes i }
 {
     let place = row_place(i);
     Row {
         offset: get_u16(image, place),
         code: get_u8(image, place + CODE_IN_ROW),
-        live: get_u8(image, place + STATE_IN_ROW) == LIVE,
+        live: get_u8(image, place + STATE_IN_ROW) == LIVE_STATE,
         serial: get_u32(image, place + SERIAL_IN_ROW),
     }
 }
 
 /// The state of row i as it is stored, in any image.
 pub(crate) fn stored_state(image: &PageImage, i: u16) -> u8
-    requires { 8 * (i + 1) ≤ PAGE_SIZE }
+    requires { RowFits i }
     ensures { result ≡ state_in image.now.bytes i }
 {
     get_u8(image, row_place(i) + STATE_IN_ROW)
+}
+
+/// The offset of row i as it is stored, in any image.
+fn stored_offset(image: &PageImage, i: u16) -> u16
+    requires { RowFits i }
+    ensures { result ≡ (row_in image.now.bytes i).offset }
+{
+    get_u16(image, row_place(i))
 }
 
 /// How many rows the page has.
@@ -92,7 +87,8 @@ pub fn nth_row(image: &PageImage, i: u16) -> Row
 pub fn cell_end(image: &PageImage, i: u16) -> u16
     requires page { IsPage image.now.bytes }
     requires there { i < length (rows_of image.now.bytes) }
-    ensures { option_map (λ cell. cell.row.offset + length cell.bytes) (slice_get (cells_of image.now.bytes) i) ≡ Some result }
+    ensures { option_map (λ cell. cell.row.offset + length cell.bytes) (slice_get (cells_of image.now.bytes) i)
+        ≡ Some result }
 {
     if i + 1 < rows(image) {
         stored_row(image, i + 1).offset
@@ -101,18 +97,41 @@ pub fn cell_end(image: &PageImage, i: u16) -> u16
     }
 }
 
-/// The row whose cell begins at an offset, and None exactly where there is none.
+/// The first row whose cell doesn't begin before an offset, or the number of rows where there is none. The
+/// offsets rise from row to row, so the rows that are left are halved until none is.
+pub(crate) fn first_row_from(image: &PageImage, offset: u16) -> u16
+    requires { IsPage image.now.bytes }
+    ensures { PartsRows image.now.bytes offset result }
+{
+    let mut low = 0;
+    let mut high = rows(image);
+    while low < high {
+        let middle = low + (high - low) / 2;
+        if stored_offset(image, middle) < offset {
+            low = middle + 1;
+        } else {
+            high = middle;
+        }
+    }
+    low
+}
+
+/// The row whose cell begins at an offset, and None exactly where there is none. It reads some ten offsets at
+/// most.
 pub fn row_at(image: &PageImage, offset: u16) -> Option<Row>
     requires { IsPage image.now.bytes }
     ensures { result ≡ row_at image.now.bytes offset }
 {
-    for i in 0..rows(image) {
-        let row = stored_row(image, i);
-        if row.offset == offset {
-            return Some(row);
-        }
+    let i = first_row_from(image, offset);
+    if i >= rows(image) {
+        return None;
     }
-    None
+    let row = stored_row(image, i);
+    if row.offset == offset {
+        Some(row)
+    } else {
+        None
+    }
 }
 
 /// The first row with a serial, and None exactly where there is none. The serial isn't 0, which all

@@ -2,6 +2,7 @@ mod cells;
 
 use super::*;
 use ostore_base::PageImage;
+use std::alloc::AllocError;
 
 /// A good page of three cells: an object, a dead object, and a chunk whose bytes are zero.
 fn good_page() -> PageImage {
@@ -96,25 +97,36 @@ fn a_header_is_written_between_the_bytes_with_no_field(rt: HostRuntime) {
 #[test]
 fn each_broken_rule_is_named(rt: HostRuntime) {
     assert_eq!(rt; check_page(&good_page()), Ok(()));
-    for (at, byte, fault) in [
-        (0, 3, PageFault::BadHeader),
-        (7, 1, PageFault::BadHeader),
-        (31, 1, PageFault::BadHeader),
-        (56, 1, PageFault::BadHeader),
-        (4071, 1, PageFault::BadHeader),
-        (3, 2, PageFault::RowsOverlap),
-        (4088, 36, PageFault::RowOrder),
-        (4080, 45, PageFault::RowOrder),
-        (4080, 32, PageFault::RowOrder),
-        (4083, 2, PageFault::RowOrder),
-        (4090, 65, PageFault::BadType),
-        (4092, 0, PageFault::BadType),
-        (4076, 1, PageFault::BadType),
-        (4, 58, PageFault::CellPastEnd),
-        (4, 52, PageFault::CellPastEnd),
+    for (at, byte, number, name) in [
+        (0, 3, 1, "BadHeader"),
+        (7, 1, 1, "BadHeader"),
+        (31, 1, 1, "BadHeader"),
+        (56, 1, 1, "BadHeader"),
+        (4071, 1, 1, "BadHeader"),
+        (3, 2, 2, "RowsOverlap"),
+        (4088, 36, 3, "RowOrder"),
+        (4080, 45, 3, "RowOrder"),
+        (4080, 32, 3, "RowOrder"),
+        (4083, 2, 3, "RowOrder"),
+        (4090, 65, 4, "BadType"),
+        (4074, 239, 4, "BadType"),
+        (4074, 247, 4, "BadType"),
+        (4092, 0, 4, "BadType"),
+        (4076, 1, 4, "BadType"),
+        (4, 58, 5, "CellPastEnd"),
+        (4, 52, 5, "CellPastEnd"),
     ] {
-        assert_eq!(rt; check_page(&changed(at, byte)), Err(fault));
+        let fault = check_page(&changed(at, byte)).err();
+        assert_eq!(rt; fault.map(|fault| fault.number()), Some(number));
+        assert_eq!(rt; fault.map(|fault| fault.name()), Some(name));
     }
+}
+
+#[test]
+fn a_fault_is_printed_with_its_number(rt: HostRuntime) -> Result<(), AllocError> {
+    let printed = format!(in rt.alloc(); "{}", PageFault::RowOrder)?;
+    assert_eq!(rt; printed.as_str(), "rule 3 RowOrder");
+    Ok(())
 }
 
 #[test]

@@ -46,6 +46,7 @@ fn a_cell_takes_the_last_bytes(rt: HostRuntime) {
     image_is_whole(&image);
     cells_are_apart(&image);
     page_is_its_parts(&image);
+    same_parts_are_one_page(&image, &image);
 }
 
 #[test]
@@ -70,11 +71,16 @@ fn a_full_page_is_read_row_by_row(rt: HostRuntime) {
             serial: u32::from(i) + 1,
         };
         assert_eq!(rt; nth_row(&image, i), row);
+        assert_eq!(rt; row_at(&image, row.offset), Some(row));
+        assert_eq!(rt; row_at(&image, row.offset + 2), None);
+        assert_eq!(rt; row_of(&image, row.serial), Some(row));
         assert_eq!(rt;
             cell_end(&image, i),
             if i == 337 { 1392 } else { 36 + 4 * i }
         );
     }
+    assert_eq!(rt; row_at(&image, 0), None);
+    assert_eq!(rt; row_at(&image, 1392), None);
     assert_eq!(rt;
         add_cell(&mut image, 4, 64, 400),
         Err(NoRoom { free: 0, need: 12 })

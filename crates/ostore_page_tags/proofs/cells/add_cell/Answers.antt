@@ -1,5 +1,5 @@
 use Rattle.std.proofs.Common.{arith}
-use Rattle.ostore_page_tags.proofs.AddLaws.{written-AddsCell, IsPage-room}
+use Rattle.ostore_page_tags.proofs.changes.AddLaws.{written-AddsCell, IsPage-room}
 use Rattle.ostore_page_tags.proofs.cells.add_cell.Goals as goal
 
 pub overflow_mul-free : goal.overflow_mul-free

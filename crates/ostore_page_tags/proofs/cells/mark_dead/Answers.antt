@@ -1,4 +1,4 @@
-use Rattle.ostore_page_tags.proofs.DeadLaws.{mark_range, written-MarksDead}
+use Rattle.ostore_page_tags.proofs.changes.DeadLaws.{mark_range, written-MarksDead}
 use Rattle.ostore_page_tags.proofs.cells.mark_dead.Goals as goal
 
 pub row_place-requires : goal.row_place-requires

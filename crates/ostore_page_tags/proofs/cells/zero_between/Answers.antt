@@ -1,5 +1,5 @@
 use Rattle.std.proofs.Common.{arith}
-use Rattle.ostore_page_tags.proofs.ImageLaws.{put_mid-zeros}
+use Rattle.ostore_page_tags.proofs.bytes.ImageLaws.{put_mid-zeros}
 use Rattle.ostore_page_tags.proofs.cells.zero_between.Goals as goal
 
 pub returns : goal.returns

@@ -1,5 +1,5 @@
 use Rattle.std.proofs.Common.{sym, refl, ◌∙◌}
-use Rattle.ostore_page_tags.proofs.PageShape.{lawful_from}
+use Rattle.ostore_page_tags.proofs.shape.PageShape.{lawful_from}
 use Rattle.ostore_page_tags.proofs.check.check_page.Goals as goal
 
 pub returns-clause-good : goal.returns-clause-good

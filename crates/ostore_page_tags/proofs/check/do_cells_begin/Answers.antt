@@ -4,7 +4,7 @@ use Rattle.ostore_page_tags.specs.declared.page_header.PageHeader.{PageHeader}
 use Rattle.ostore_page_tags.specs.declared.tag_rows.Row.{Row}
 use Rattle.ostore_page_tags.specs.Header.{header_of}
 use Rattle.ostore_page_tags.specs.Rows.{row_in}
-use Rattle.ostore_page_tags.proofs.RowLaws.{begin_at-first}
+use Rattle.ostore_page_tags.proofs.walks.RowLaws.{begin_at-first}
 use Rattle.ostore_page_tags.proofs.check.do_cells_begin.Goals as goal
 
 pub returns-else-header-eq0 : goal.returns-else-header-eq0

@@ -3,13 +3,13 @@ use Rattle.std.proofs.lemmas.Bool.{and_from, and_left, and_right, lt-ltb, le-ltb
 use Rattle.ostore_page_tags.specs.declared.page_header.PageHeader.{PageHeader}
 use Rattle.ostore_page_tags.specs.Header.{header_of}
 use Rattle.ostore_page_tags.specs.Rows.{row_in}
-use Rattle.ostore_page_tags.specs.Rules.{rise_by_four}
-use Rattle.ostore_page_tags.proofs.RowLaws.{offsets, at_start, rises, rise-fails, rise-goes_on, rise-ends}
+use Rattle.ostore_page_tags.specs.Rules.{rise_by_step}
+use Rattle.ostore_page_tags.proofs.walks.RowLaws.{offsets, at_start, rises, rise-fails, rise-goes_on, rise-ends}
 use Rattle.ostore_page_tags.proofs.check.do_offsets_rise.Goals as goal
 use Rattle.ostore_page_tags.proofs.check.do_offsets_rise.Goals.{then-next-row-via-then-next-row, then-next-row-via-else-next-row+then-next-row-ne0}
 
 pub loop-i-init : goal.loop-i-init
-loop-i-init c = at_start (λ rows. rise_by_four (offsets rows)) (row_in c.args.image.now.bytes) _ _ refl
+loop-i-init c = at_start (λ rows. rise_by_step (offsets rows)) (row_in c.args.image.now.bytes) _ _ refl
 
 pub loop-i-preserved : goal.loop-i-preserved
 loop-i-preserved c =

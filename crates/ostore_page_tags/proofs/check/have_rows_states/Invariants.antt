@@ -1,7 +1,7 @@
 use Rattle.std.proofs.Common.{◌≡◌, leb}
 use Rattle.std.specs.List.{list_all}
 use Rattle.ostore_page_tags.specs.Rows.{state_in, states_of}
-use Rattle.ostore_page_tags.proofs.RowLaws.{from_place}
+use Rattle.ostore_page_tags.proofs.walks.RowLaws.{from_place}
 use Rattle.ostore_page_tags.proofs.check.have_rows_states.Given as goal
 
 abbrev pub invariant-loop-i : goal.invariant-loop-i

@@ -3,7 +3,7 @@ use Rattle.std.specs.List.{list_all}
 use Rattle.ostore_page_tags.specs.declared.page_header.PageHeader.{PageHeader}
 use Rattle.ostore_page_tags.specs.Rows.{row_in}
 use Rattle.ostore_page_tags.specs.Rules.{is_tag}
-use Rattle.ostore_page_tags.proofs.RowLaws.{at_start, list_all-fails, list_all-goes_on, list_all-ends}
+use Rattle.ostore_page_tags.proofs.walks.RowLaws.{at_start, list_all-fails, list_all-goes_on, list_all-ends}
 use Rattle.ostore_page_tags.proofs.check.have_rows_types.Goals as goal
 
 pub loop-i-init : goal.loop-i-init

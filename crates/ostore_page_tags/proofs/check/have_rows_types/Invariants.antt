@@ -2,7 +2,7 @@ use Rattle.std.proofs.Common.{◌≡◌}
 use Rattle.std.specs.List.{list_all}
 use Rattle.ostore_page_tags.specs.Rows.{row_in}
 use Rattle.ostore_page_tags.specs.Rules.{is_tag, have_rows_types}
-use Rattle.ostore_page_tags.proofs.RowLaws.{from_place}
+use Rattle.ostore_page_tags.proofs.walks.RowLaws.{from_place}
 use Rattle.ostore_page_tags.proofs.check.have_rows_types.Given as goal
 
 abbrev pub invariant-loop-i : goal.invariant-loop-i

@@ -3,7 +3,7 @@ use Rattle.ostore_page_tags.specs.declared.page_header.PageHeader.{PageHeader}
 use Rattle.ostore_page_tags.specs.declared.tag_rows.Row.{Row}
 use Rattle.ostore_page_tags.specs.Header.{header_of}
 use Rattle.ostore_page_tags.specs.Rows.{row_in}
-use Rattle.ostore_page_tags.proofs.RowLaws.{end_behind-none, end_behind-last}
+use Rattle.ostore_page_tags.proofs.walks.RowLaws.{end_behind-none, end_behind-last}
 use Rattle.ostore_page_tags.proofs.check.is_last_offset_below_end.Goals as goal
 
 pub returns-then-header-eq0 : goal.returns-then-header-eq0

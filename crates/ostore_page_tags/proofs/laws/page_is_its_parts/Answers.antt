@@ -1,4 +1,4 @@
-use Rattle.ostore_page_tags.proofs.ApartLaws.{IsPage-parts}
+use Rattle.ostore_page_tags.proofs.parts.ApartLaws.{IsPage-parts}
 use Rattle.ostore_page_tags.proofs.laws.page_is_its_parts.Goals as goal
 
 pub returns : goal.returns

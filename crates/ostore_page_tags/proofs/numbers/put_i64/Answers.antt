@@ -2,9 +2,10 @@ use Rattle.std.proofs.Common.{◌≡◌, ◌-◌, ◌∙◌, ℤ, to_z, of_z, ap
 use Rattle.std.specs.Int.{w64, cast_unsigned}
 use Rattle.std.proofs.lemmas.Int.{to_z-of_z}
 use Rattle.byteorder.specs.Endian.{little_bytes}
+use Rattle.ostore_base.specs.declared.page.TheConstants.{PAGE_SIZE}
 use Rattle.ostore_page_tags.specs.Numbers.{int_at, with_int}
-use Rattle.ostore_page_tags.proofs.ImageLaws.{int_at-with_int}
-use Rattle.ostore_page_tags.proofs.NumberLaws.{put_mid-replaced}
+use Rattle.ostore_page_tags.proofs.bytes.ImageLaws.{int_at-with_int}
+use Rattle.ostore_page_tags.proofs.bytes.NumberLaws.{put_mid-replaced}
 use Rattle.ostore_page_tags.proofs.numbers.put_i64.Goals as goal
 use borrow.Rule.Slice.PartMut.{put_mid}
 
@@ -13,8 +14,8 @@ returns-clause-written c =
     let bytes = c.args.image.now.bytes in
     let passed : to_z w64 (of_z w64 c.args.value) ≡ c.args.value = to_z-of_z w64 c.args.value c.ranges.value in
     let given = little_bytes 8 (cast_unsigned w64 (to_z w64 (of_z w64 c.args.value))) in
-    subst (λ (value : ℤ). put_mid c.args.at (4096 - c.args.at) bytes c.write_i64.new.buf ≡ with_int c.args.at value bytes) passed
-    (put_mid-replaced c.args.at (4096 - c.args.at) bytes given c.write_i64.new.buf (omega arith) c.write_i64.ensures)
+    subst (λ (value : ℤ). put_mid c.args.at (PAGE_SIZE - c.args.at) bytes c.write_i64.new.buf ≡ with_int c.args.at value bytes) passed
+    (put_mid-replaced c.args.at (PAGE_SIZE - c.args.at) bytes given c.write_i64.new.buf (omega arith) c.write_i64.ensures)
 
 pub returns-clause-read_back : goal.returns-clause-read_back
 returns-clause-read_back c =

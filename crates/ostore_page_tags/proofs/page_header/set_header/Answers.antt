@@ -1,6 +1,6 @@
 -- The fields are unsigned numbers of their widths, so that what was written is read.
 use Rattle.std.proofs.Common.{arith}
-use Rattle.ostore_page_tags.proofs.ImageLaws.{IsHeaderWide, header_of-written}
+use Rattle.ostore_page_tags.proofs.bytes.ImageLaws.{IsHeaderWide, header_of-written}
 use Rattle.ostore_page_tags.proofs.page_header.set_header.Goals as goal
 
 pub returns-clause-read_back : goal.returns-clause-read_back

@@ -1,5 +1,5 @@
 use Rattle.std.proofs.Common.{arith}
-use Rattle.ostore_page_tags.proofs.NthLaws.{rows_fit, cell_stops_at_next, cell_stops_at_end}
+use Rattle.ostore_page_tags.proofs.walks.NthLaws.{rows_fit, cell_stops_at_next, cell_stops_at_end}
 use Rattle.ostore_page_tags.proofs.tag_rows.cell_end.Goals as goal
 
 pub overflow_add-i : goal.overflow_add-i

@@ -1,5 +1,5 @@
 use Rattle.std.proofs.Common.{arith}
-use Rattle.ostore_page_tags.proofs.NthLaws.{rows_fit, row_at_number}
+use Rattle.ostore_page_tags.proofs.walks.NthLaws.{rows_fit, row_at_number}
 use Rattle.ostore_page_tags.proofs.tag_rows.nth_row.Goals as goal
 
 pub stored_row-requires : goal.stored_row-requires

@@ -1,22 +1,16 @@
-use Rattle.std.proofs.Common.{eqb, ◌∙◌, arith}
-use Rattle.std.specs.List.{find}
-use Rattle.std.proofs.lemmas.Bool.{eq-eqb, ne_eqb}
-use Rattle.ostore_page_tags.specs.Rows.{row_in}
-use Rattle.ostore_page_tags.proofs.NthLaws.{rows_counted, rows_fit}
-use Rattle.ostore_page_tags.proofs.RowLaws.{at_start, find-found, find-goes_on, find-ends}
+use Rattle.std.proofs.Common.{arith}
+use Rattle.ostore_page_tags.proofs.walks.NthLaws.{rows_fit}
+use Rattle.ostore_page_tags.proofs.walks.PartedRows.{parts-found, parts-none, parts-other}
 use Rattle.ostore_page_tags.proofs.tag_rows.row_at.Goals as goal
 
-pub loop-i-init : goal.loop-i-init
-loop-i-init c = at_start (find (λ row. eqb row.offset c.args.offset)) (row_in c.args.image.now.bytes) _ _ (c.rows-i-end.ensures ∙ rows_counted c.args.image.now.bytes)
+pub returns-then-i-rows : goal.returns-then-i-rows
+returns-then-i-rows c = parts-none c.args.image.now.bytes c.args.offset c.first_row_from-i.result c.first_row_from-i.ensures (omega arith)
 
 pub stored_row-row-requires : goal.stored_row-row-requires
 stored_row-row-requires c = omega (arith, rows_fit c.args.image.now.bytes c.requires)
 
 pub returns-then-row-offset : goal.returns-then-row-offset
-returns-then-row-offset c = find-found (λ row. eqb row.offset c.args.offset) (row_in c.args.image.now.bytes) c.loop-i.i _ c.stored_row-row.result _ c.loop-i.invariant c.loop-i-test.true c.stored_row-row.ensures (eq-eqb _ _ c.if-row-offset.true)
+returns-then-row-offset c = parts-found c.args.image.now.bytes c.args.offset c.first_row_from-i.result c.stored_row-row.result c.first_row_from-i.ensures (omega arith) c.stored_row-row.ensures c.if-row-offset.true
 
-pub loop-i-preserved : goal.loop-i-preserved
-loop-i-preserved c = find-goes_on (λ row. eqb row.offset c.args.offset) (row_in c.args.image.now.bytes) c.loop-i.i _ c.stored_row-row.result _ c.loop-i.invariant c.loop-i-test.true c.stored_row-row.ensures (ne_eqb _ _ c.if-row-offset.false)
-
-pub returns : goal.returns
-returns c = find-ends (λ row. eqb row.offset c.args.offset) (row_in c.args.image.now.bytes) c.loop-i.i _ _ c.loop-i.invariant c.loop-i-test.false
+pub returns-else-row-offset : goal.returns-else-row-offset
+returns-else-row-offset c = parts-other c.args.image.now.bytes c.args.offset c.first_row_from-i.result c.stored_row-row.result c.requires c.first_row_from-i.ensures (omega arith) c.stored_row-row.ensures c.if-row-offset.false

@@ -2,8 +2,8 @@ use Rattle.std.proofs.Common.{eqb, ◌∙◌, arith}
 use Rattle.std.specs.List.{find}
 use Rattle.std.proofs.lemmas.Bool.{eq-eqb, ne_eqb}
 use Rattle.ostore_page_tags.specs.Rows.{row_in}
-use Rattle.ostore_page_tags.proofs.NthLaws.{rows_counted, rows_fit}
-use Rattle.ostore_page_tags.proofs.RowLaws.{at_start, find-found, find-goes_on, find-ends}
+use Rattle.ostore_page_tags.proofs.walks.NthLaws.{rows_counted, rows_fit}
+use Rattle.ostore_page_tags.proofs.walks.RowLaws.{at_start, find-found, find-goes_on, find-ends}
 use Rattle.ostore_page_tags.proofs.tag_rows.row_of.Goals as goal
 
 pub loop-i-init : goal.loop-i-init

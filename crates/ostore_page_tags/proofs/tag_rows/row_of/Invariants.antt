@@ -1,7 +1,7 @@
 use Rattle.std.proofs.Common.{◌≡◌, eqb}
 use Rattle.std.specs.List.{find}
 use Rattle.ostore_page_tags.specs.Rows.{row_in, row_of}
-use Rattle.ostore_page_tags.proofs.RowLaws.{from_place}
+use Rattle.ostore_page_tags.proofs.walks.RowLaws.{from_place}
 use Rattle.ostore_page_tags.proofs.tag_rows.row_of.Given as goal
 
 abbrev pub invariant-loop-i : goal.invariant-loop-i

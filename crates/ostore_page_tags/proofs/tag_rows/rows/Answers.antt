@@ -1,6 +1,6 @@
 use Rattle.std.proofs.Common.{ap, sym, ◌∙◌}
 use Rattle.ostore_page_tags.specs.declared.page_header.PageHeader.{PageHeader}
-use Rattle.ostore_page_tags.proofs.NthLaws.{rows_counted}
+use Rattle.ostore_page_tags.proofs.walks.NthLaws.{rows_counted}
 use Rattle.ostore_page_tags.proofs.tag_rows.rows.Goals as goal
 
 pub returns : goal.returns

@@ -4,15 +4,17 @@ use Rattle.std.specs.List.{range_with_len, slice_get}
 use Rattle.std.specs.Option.{option_map}
 use Rattle.std.proofs.lemmas.List.FromFn.{length-map-range_with_len, get_or-map-range_with_len}
 use Rattle.std.proofs.lemmas.Option.{slice_get_read}
+use Rattle.ostore_base.specs.declared.page.TheConstants.{PAGE_SIZE}
+use Rattle.ostore_page_tags.specs.declared.layout.TheConstants.{ROW_BYTES}
 use Rattle.ostore_page_tags.specs.declared.page_header.PageHeader.{PageHeader}
 use Rattle.ostore_page_tags.specs.declared.tag_rows.Row.{Row}
 use Rattle.ostore_page_tags.specs.Header.{header_of}
 use Rattle.ostore_page_tags.specs.Rows.{row_in, rows_of}
 use Rattle.ostore_page_tags.specs.Cells.{Cell, between, cells_of}
 use Rattle.ostore_page_tags.specs.Rules.{IsPage}
-use Rattle.ostore_page_tags.proofs.ImageLaws.{length-between}
-use Rattle.ostore_page_tags.proofs.PageShape.{rows_in, end_in, offset_in, stop_at, stop_more, stop_last, cell_range, IsPage-shape}
-use Rattle.ostore_page_tags.proofs.CellLaws.{cell_in, cells_are}
+use Rattle.ostore_page_tags.proofs.bytes.ImageLaws.{length-between}
+use Rattle.ostore_page_tags.proofs.shape.PageShape.{rows_in, end_in, offset_in, stop_at, stop_more, stop_last, cell_range, IsPage-shape}
+use Rattle.ostore_page_tags.proofs.parts.CellLaws.{cell_in, cells_are}
 
 pub slice_get-range : {X : Type 0} (f : ℕ → X) (n i : ℕ) → i < n → slice_get (map f (range_with_len 0 n)) i ≡ Some (f i)
 slice_get-range f n i h = slice_get_read (map f (range_with_len 0 n)) n i (f i) (sym (length-map-range_with_len f 0 n)) h (sym (get_or-map-range_with_len f 0 n i i (f i) h (omega arith)))
@@ -20,7 +22,7 @@ slice_get-range f n i h = slice_get_read (map f (range_with_len 0 n)) n i (f i) 
 pub rows_counted : (bytes : List ℕ) → length (rows_of bytes) ≡ (header_of bytes).rows
 rows_counted bytes = length-map-range_with_len (row_in bytes) 0 (header_of bytes).rows
 
-pub rows_fit : (bytes : List ℕ) → IsPage bytes → 8 * length (rows_of bytes) ≤ 4096
+pub rows_fit : (bytes : List ℕ) → IsPage bytes → ROW_BYTES * length (rows_of bytes) ≤ PAGE_SIZE
 rows_fit bytes page =
     let room = (IsPage-shape bytes page).room in
     omega (arith, rows_counted bytes)

@@ -3,13 +3,15 @@ use Rattle.std.proofs.Common.{◌≡◌, ℕ, zero, suc, ◌+◌, ◌-◌, ◌*�
 use Rattle.std.specs.List.{range_with_len, flat_map, All, AllPairs}
 use Rattle.std.proofs.lemmas.List.{append-nil, take-append-drop, take-take, drop-drop, drop-take}
 use Rattle.std.proofs.lemmas.List.FromFn.{length-map-range_with_len, get_or-map-range_with_len}
+use Rattle.ostore_base.specs.declared.page.TheConstants.{PAGE_SIZE}
+use Rattle.ostore_page_tags.specs.declared.layout.TheConstants.{ROW_BYTES}
 use Rattle.ostore_page_tags.specs.declared.tag_rows.Row.{Row}
 use Rattle.ostore_page_tags.specs.Rows.{row_in}
 use Rattle.ostore_page_tags.specs.Cells.{Cell, between, cells_of, free_bytes, AreApart, parts_of}
 use Rattle.ostore_page_tags.specs.Rules.{IsPage}
-use Rattle.ostore_page_tags.proofs.ImageLaws.{length-between}
-use Rattle.ostore_page_tags.proofs.PageShape.{Offsets, rows_in, end_in, offset_in, Shape, IsPage-shape, end_above, stop_at, stop_more, stop_last, IsCellRange, cell_range, cell_before}
-use Rattle.ostore_page_tags.proofs.CellLaws.{ZeroOn-within, between-zeros, cell_in, cells_are}
+use Rattle.ostore_page_tags.proofs.bytes.ImageLaws.{length-between}
+use Rattle.ostore_page_tags.proofs.shape.PageShape.{Offsets, rows_in, end_in, offset_in, Shape, IsPage-shape, end_above, stop_at, stop_more, stop_last, IsCellRange, cell_range, cell_before}
+use Rattle.ostore_page_tags.proofs.parts.CellLaws.{ZeroOn-within, between-zeros, cell_in, cells_are}
 
 -- what is so of each number's value is so of each element
 All-range : {X : Type 0} (P : X → Type 0) (f : ℕ → X) (n : ℕ) → ((i : ℕ) → i < n → P (f i)) → All P (map f (range_with_len 0 n))
@@ -111,17 +113,21 @@ front_append : (middle stop : ℕ) (bytes : List ℕ) → middle ≤ stop → ta
 front_append middle stop bytes order =
     ap (λ (l : List ℕ). l ++ between middle stop bytes) (sym (between_start middle bytes)) ∙ between-append 0 middle stop bytes (omega arith) order ∙ between_start stop bytes
 
+-- the cells are the bytes between the header and their end
+pub cells-between : (bytes : List ℕ) → IsPage bytes → flat_map (λ c. c.bytes) (cells_of bytes) ≡ between 32 (end_in bytes) bytes
+cells-between bytes page =
+    ap (flat_map (λ c. c.bytes)) (cells_are (rows_in bytes) (end_in bytes) bytes refl refl) ∙ cells_join_all (rows_in bytes) (end_in bytes) bytes (row_in bytes) (IsPage-shape bytes page).offsets
+
 pub IsPage-parts : (bytes : List ℕ) → IsPage bytes → bytes ≡ parts_of bytes
 IsPage-parts bytes page =
     let shape = IsPage-shape bytes page in
     let rows : ℕ = rows_in bytes in
     let end : ℕ = end_in bytes in
-    let stop : ℕ = 4096 - 8 * rows_in bytes in
+    let stop : ℕ = PAGE_SIZE - ROW_BYTES * rows_in bytes in
     let room = shape.room in
     let whole = shape.whole in
     let above : 32 ≤ end_in bytes = end_above rows end (offset_in bytes) shape.offsets in
-    let cells : flat_map (λ c. c.bytes) (cells_of bytes) ≡ between 32 end bytes =
-    ap (flat_map (λ c. c.bytes)) (cells_are rows end bytes refl refl) ∙ cells_join_all rows end bytes (row_in bytes) shape.offsets in
+    let cells : flat_map (λ c. c.bytes) (cells_of bytes) ≡ between 32 end bytes = cells-between bytes page in
     let gap : between end stop bytes ≡ replicate (free_bytes bytes) 0 =
     between-zeros end stop bytes (omega arith) (ZeroOn-within (max 32 end) stop end stop bytes shape.gap (omega arith) (omega arith)) in
     let front : take 32 bytes ++ between 32 end bytes ≡ take end bytes = front_append 32 end bytes above in

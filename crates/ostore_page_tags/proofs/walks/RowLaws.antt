@@ -3,7 +3,7 @@ use Rattle.std.proofs.Common.{◌≡◌, ℕ, zero, suc, ◌+◌, ◌-◌, ◌%�
 use Rattle.std.specs.List.{range_with_len, list_all, find}
 use Rattle.std.proofs.lemmas.Bool.{cases_lt}
 use Rattle.ostore_page_tags.specs.declared.tag_rows.Row.{Row}
-use Rattle.ostore_page_tags.specs.Rules.{begin_at, rise_by_four, end_behind}
+use Rattle.ostore_page_tags.specs.Rules.{begin_at, rise_by_step, end_behind}
 
 -- what stands at the places from i up to n
 abbrev pub from_place : {X : Type 0} → (ℕ → X) → ℕ → ℕ → List X
@@ -66,26 +66,26 @@ offsets rows = map (λ row. row.offset) rows
 abbrev pub rises : Row → Row → Bool
 rises row next = ltb row.offset next.offset && eqb ((next.offset - row.offset) % 4) 0
 
-rise-turn : (f : ℕ → Row) (i n : ℕ) → i + 1 < n → rise_by_four (offsets (from_place f i n)) ≡ (rises (f i) (f (i + 1)) && rise_by_four (offsets (from_place f (i + 1) n)))
+rise-turn : (f : ℕ → Row) (i n : ℕ) → i + 1 < n → rise_by_step (offsets (from_place f i n)) ≡ (rises (f i) (f (i + 1)) && rise_by_step (offsets (from_place f (i + 1) n)))
 rise-turn f i n h =
-    let rise = λ (rows : List Row). rise_by_four (offsets rows) in
+    let rise = λ (rows : List Row). rise_by_step (offsets rows) in
     let two = ap (λ (rows : List Row). f i ∷ rows) (from_place-turn f (i + 1) n h) in
     let again = ap (λ (rows : List Row). rises (f i) (f (i + 1)) && rise rows) (from_place-turn f (i + 1) n h) in
     ap rise (from_place-turn f i n (omega arith) ∙ two) ∙ sym again
 
-pub rise-fails : (f : ℕ → Row) (i n : ℕ) (x y : Row) (all : Bool) → rise_by_four (offsets (from_place f i n)) ≡ all → i + 1 < n → x ≡ f i → y ≡ f (i + 1) → rises x y ≡ false → false ≡ all
+pub rise-fails : (f : ℕ → Row) (i n : ℕ) (x y : Row) (all : Bool) → rise_by_step (offsets (from_place f i n)) ≡ all → i + 1 < n → x ≡ f i → y ≡ f (i + 1) → rises x y ≡ false → false ≡ all
 rise-fails f i n x y all walked h e d fails =
     let here : rises (f i) (f (i + 1)) ≡ false = ap (λ (row : Row). rises row (f (i + 1))) (sym e) ∙ ap (rises x) (sym d) ∙ fails in
-    sym (ap (λ (b : Bool). b && rise_by_four (offsets (from_place f (i + 1) n))) here) ∙ sym (rise-turn f i n h) ∙ walked
+    sym (ap (λ (b : Bool). b && rise_by_step (offsets (from_place f (i + 1) n))) here) ∙ sym (rise-turn f i n h) ∙ walked
 
-pub rise-goes_on : (f : ℕ → Row) (i n : ℕ) (x y : Row) (all : Bool) → rise_by_four (offsets (from_place f i n)) ≡ all → i + 1 < n → x ≡ f i → y ≡ f (i + 1) → rises x y ≡ true → rise_by_four (offsets (from_place f (i + 1) n)) ≡ all
+pub rise-goes_on : (f : ℕ → Row) (i n : ℕ) (x y : Row) (all : Bool) → rise_by_step (offsets (from_place f i n)) ≡ all → i + 1 < n → x ≡ f i → y ≡ f (i + 1) → rises x y ≡ true → rise_by_step (offsets (from_place f (i + 1) n)) ≡ all
 rise-goes_on f i n x y all walked h e d passes =
     let here : rises (f i) (f (i + 1)) ≡ true = ap (λ (row : Row). rises row (f (i + 1))) (sym e) ∙ ap (rises x) (sym d) ∙ passes in
-    sym (ap (λ (b : Bool). b && rise_by_four (offsets (from_place f (i + 1) n))) here) ∙ sym (rise-turn f i n h) ∙ walked
+    sym (ap (λ (b : Bool). b && rise_by_step (offsets (from_place f (i + 1) n))) here) ∙ sym (rise-turn f i n h) ∙ walked
 
-pub rise-ends : (f : ℕ → Row) (i n : ℕ) (all : Bool) → rise_by_four (offsets (from_place f i n)) ≡ all → n ≤ i + 1 → true ≡ all
+pub rise-ends : (f : ℕ → Row) (i n : ℕ) (all : Bool) → rise_by_step (offsets (from_place f i n)) ≡ all → n ≤ i + 1 → true ≡ all
 rise-ends f i n all walked h =
-    let rise = λ (rows : List Row). rise_by_four (offsets rows) in
+    let rise = λ (rows : List Row). rise_by_step (offsets rows) in
     elim (cases_lt i n) [
       | inl below ↦
           let one = from_place-turn f i n below ∙ ap (λ (rows : List Row). f i ∷ rows) (from_place-end f (i + 1) n h) in

@@ -6,6 +6,8 @@ use Rattle.std.proofs.lemmas.Bool.{cases_lt, cases_eq, eq-eqb, ne_eqb}
 use Rattle.std.proofs.lemmas.List.{length-replicate, get_or-replicate}
 use Rattle.std.proofs.lemmas.List.FromFn.{length-map-range_with_len}
 use Rattle.ostore_base.specs.Disk.{replaced}
+use Rattle.ostore_base.specs.declared.page.TheConstants.{PAGE_SIZE}
+use Rattle.ostore_page_tags.specs.declared.layout.TheConstants.{ROW_BYTES}
 use Rattle.ostore_page_tags.specs.declared.page_header.PageHeader.{PageHeader}
 use Rattle.ostore_page_tags.specs.declared.tag_rows.Row.{Row}
 use Rattle.ostore_page_tags.specs.Numbers.{number_at, with_number}
@@ -14,12 +16,12 @@ use Rattle.ostore_page_tags.specs.Rows.{row_place, row_in, state_in, rows_of}
 use Rattle.ostore_page_tags.specs.Cells.{Cell, between, cell_to, cells_of}
 use Rattle.ostore_page_tags.specs.Rules.{is_tag, IsPage}
 use Rattle.ostore_page_tags.specs.Changes.{zeroed_cell, dead_row, dead_at, MarksDead}
-use Rattle.ostore_page_tags.proofs.ImageLaws.{SameOn, SameOn-within, SameOn-trans, number_at-same, between-same, length-between, between_read, between-replaced_at, length-replaced_within, SameOn-replaced_before, SameOn-replaced_behind, length-with_number, number_at-with_number, SameOn-with_number_before, SameOn-with_number_behind}
-use Rattle.ostore_page_tags.proofs.RangeLaws.{map-range-same, map-map-range}
-use Rattle.ostore_page_tags.proofs.PageShape.{ZeroOn, Offsets, rows_in, end_in, offset_in, Shape, IsPage-shape, shape-IsPage, offset_above, offset_order, stop_at, stop_more, stop_last, cell_range, cell_before}
-use Rattle.ostore_page_tags.proofs.RowLaws.{from_place, find-goes_on, find-ends}
-use Rattle.ostore_page_tags.proofs.NthLaws.{slice_get-range}
-use Rattle.ostore_page_tags.proofs.CellLaws.{ZeroOn-same, between-zeros, header_of-same, row_same, row_in-same, state_in-same, cell_in, cells_are, cell_same, cell_made}
+use Rattle.ostore_page_tags.proofs.bytes.ImageLaws.{SameOn, SameOn-within, SameOn-trans, number_at-same, between-same, length-between, between_read, between-replaced_at, length-replaced_within, SameOn-replaced_before, SameOn-replaced_behind, length-with_number, number_at-with_number, SameOn-with_number_before, SameOn-with_number_behind}
+use Rattle.ostore_page_tags.proofs.shape.RangeLaws.{map-range-same, map-map-range}
+use Rattle.ostore_page_tags.proofs.shape.PageShape.{ZeroOn, Offsets, rows_in, end_in, offset_in, Shape, IsPage-shape, shape-IsPage, offset_above, offset_order, stop_at, stop_more, stop_last, cell_range, cell_before}
+use Rattle.ostore_page_tags.proofs.walks.RowLaws.{from_place, find-goes_on, find-ends}
+use Rattle.ostore_page_tags.proofs.walks.NthLaws.{slice_get-range}
+use Rattle.ostore_page_tags.proofs.parts.CellLaws.{ZeroOn-same, between-zeros, header_of-same, row_same, row_in-same, state_in-same, cell_in, cells_are, cell_same, cell_made}
 
 -- where the cell of row i stops
 abbrev pub stop_in : List ℕ → ℕ → ℕ
@@ -33,16 +35,16 @@ pub record IsMarked (old new : List ℕ) (i : ℕ) : Type 0 where
   pub zeros : ZeroOn (offset_in old i) (stop_in old i) new
   pub middle : SameOn (stop_in old i) (row_place i + 3) new old
   pub state : state_in new i ≡ 0
-  pub behind : SameOn (row_place i + 4) 4096 new old
+  pub behind : SameOn (row_place i + 4) PAGE_SIZE new old
 
 -- another row is as it was
-marked_other : (old new : List ℕ) (i : ℕ) → Shape old → IsMarked old new i → (j : ℕ) → j < rows_in old → j ≢ i → SameOn (row_place j) (row_place j + 8) new old
+marked_other : (old new : List ℕ) (i : ℕ) → Shape old → IsMarked old new i → (j : ℕ) → j < rows_in old → j ≢ i → SameOn (row_place j) (row_place j + ROW_BYTES) new old
 marked_other old new i shape change j below other =
     let room = shape.room in
     let range = cell_range (rows_in old) (end_in old) (offset_in old) shape.offsets i change.below in
     elim (cases_lt j i) [
-      | inl early ↦ SameOn-within (row_place i + 4) 4096 (row_place j) (row_place j + 8) new old change.behind (omega arith) (omega arith)
-      | inr late ↦ let after : i < j = omega arith in let behind = change.below in SameOn-within (stop_in old i) (row_place i + 3) (row_place j) (row_place j + 8) new old change.middle (omega (arith, range.most)) (omega arith)
+      | inl early ↦ SameOn-within (row_place i + 4) PAGE_SIZE (row_place j) (row_place j + ROW_BYTES) new old change.behind (omega arith) (omega arith)
+      | inr late ↦ let after : i < j = omega arith in let behind = change.below in SameOn-within (stop_in old i) (row_place i + 3) (row_place j) (row_place j + ROW_BYTES) new old change.middle (omega (arith, range.most)) (omega arith)
     ]
 
 -- the row itself is the dead one
@@ -55,7 +57,7 @@ marked_row old new i shape change =
     let most = range.most in
     let offset = number_at-same 2 at new old (SameOn-within (stop_in old i) (at + 3) at (at + 2) new old change.middle (omega arith) (omega arith)) in
     let code = number_at-same 1 (at + 2) new old (SameOn-within (stop_in old i) (at + 3) (at + 2) (at + 2 + 1) new old change.middle (omega arith) (omega arith)) in
-    let serial = number_at-same 4 (at + 4) new old (SameOn-within (at + 4) 4096 (at + 4) (at + 4 + 4) new old change.behind (omega arith) (omega arith)) in
+    let serial = number_at-same 4 (at + 4) new old (SameOn-within (at + 4) PAGE_SIZE (at + 4) (at + 4 + 4) new old change.behind (omega arith) (omega arith)) in
     row_same _ _ _ _ (dead_row (row_in old i)) offset code (ap (λ s. eqb s 1) change.state) serial
 
 marked_header : (old new : List ℕ) (i : ℕ) → Shape old → IsMarked old new i → header_of new ≡ header_of old
@@ -198,7 +200,7 @@ marked-MarksDead old new i page change =
 
 -- ---- the search for a row
 
-pub IsPage-rows : (bytes : List ℕ) → IsPage bytes → 8 * rows_in bytes ≤ 4096
+pub IsPage-rows : (bytes : List ℕ) → IsPage bytes → ROW_BYTES * rows_in bytes ≤ PAGE_SIZE
 IsPage-rows bytes page = let room = (IsPage-shape bytes page).room in omega arith
 
 -- a row from row i on has the offset
@@ -274,18 +276,18 @@ marked_from old mid i page below state =
     let new : List ℕ = replaced start zeros mid in
     let kept : length mid ≡ length old = ap length state ∙ length-with_number 1 at 0 old (omega arith) in
     let mid_before : SameOn 0 at mid old = subst (λ (m : List ℕ). SameOn 0 at m old) (sym state) (SameOn-with_number_before 1 at 0 0 at old (omega arith) (omega arith)) in
-    let mid_behind : SameOn (at + 1) 4096 mid old = subst (λ (m : List ℕ). SameOn (at + 1) 4096 m old) (sym state) (SameOn-with_number_behind 1 at 0 (at + 1) 4096 old (omega arith) (omega arith)) in
+    let mid_behind : SameOn (at + 1) PAGE_SIZE mid old = subst (λ (m : List ℕ). SameOn (at + 1) PAGE_SIZE m old) (sym state) (SameOn-with_number_behind 1 at 0 (at + 1) PAGE_SIZE old (omega arith) (omega arith)) in
     let new_before : SameOn 0 start new mid = SameOn-replaced_before start 0 start zeros mid (omega arith) (omega arith) in
-    let new_behind : SameOn stop 4096 new mid = SameOn-replaced_behind start stop 4096 zeros mid (omega arith) (omega arith) in
+    let new_behind : SameOn stop PAGE_SIZE new mid = SameOn-replaced_behind start stop PAGE_SIZE zeros mid (omega arith) (omega arith) in
     let dead : number_at 1 at mid ≡ 0 = ap (number_at 1 at) state ∙ number_at-with_number 1 at 0 old (omega arith) (omega arith) in
     record {
       long = length-replaced_within start zeros mid (omega arith) ∙ kept;
       below = below;
       before = SameOn-trans 0 start new mid old new_before (SameOn-within 0 at 0 start mid old mid_before (omega arith) (omega arith));
       zeros = subst (λ (s : ℕ). ZeroOn start s new) upto (zeros_replaced start size mid (omega arith));
-      middle = SameOn-trans stop at new mid old (SameOn-within stop 4096 stop at new mid new_behind (omega arith) (omega arith)) (SameOn-within 0 at stop at mid old mid_before (omega arith) (omega arith));
-      state = number_at-same 1 at new mid (SameOn-within stop 4096 at (at + 1) new mid new_behind (omega arith) (omega arith)) ∙ dead;
-      behind = SameOn-within (at + 1) 4096 (row_place i + 4) 4096 new old (SameOn-trans (at + 1) 4096 new mid old (SameOn-within stop 4096 (at + 1) 4096 new mid new_behind (omega arith) (omega arith)) mid_behind) (omega arith) (omega arith);
+      middle = SameOn-trans stop at new mid old (SameOn-within stop PAGE_SIZE stop at new mid new_behind (omega arith) (omega arith)) (SameOn-within 0 at stop at mid old mid_before (omega arith) (omega arith));
+      state = number_at-same 1 at new mid (SameOn-within stop PAGE_SIZE at (at + 1) new mid new_behind (omega arith) (omega arith)) ∙ dead;
+      behind = SameOn-within (at + 1) PAGE_SIZE (row_place i + 4) PAGE_SIZE new old (SameOn-trans (at + 1) PAGE_SIZE new mid old (SameOn-within stop PAGE_SIZE (at + 1) PAGE_SIZE new mid new_behind (omega arith) (omega arith)) mid_behind) (omega arith) (omega arith);
     }
 
 -- the number of a row that is there
@@ -294,7 +296,7 @@ row_below bytes i there = omega (arith, length-map-range_with_len (row_in bytes)
 
 -- a row lies in the page, and its cell too
 pub mark_range : (bytes : List ℕ) (i offset end : ℕ) → IsPage bytes → i < length (rows_of bytes) → offset_in bytes i ≡ offset
-    → option_map (λ cell. cell.row.offset + length cell.bytes) (slice_get (cells_of bytes) i) ≡ Some end → (8 * (i + 1) ≤ 4096) × (offset ≤ end) × (end ≤ 4096)
+    → option_map (λ cell. cell.row.offset + length cell.bytes) (slice_get (cells_of bytes) i) ≡ Some end → (ROW_BYTES * (i + 1) ≤ PAGE_SIZE) × (offset ≤ end) × (end ≤ PAGE_SIZE)
 mark_range bytes i offset end page there at told =
     let below = row_below bytes i there in
     let shape = IsPage-shape bytes page in

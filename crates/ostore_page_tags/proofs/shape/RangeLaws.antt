@@ -2,7 +2,7 @@
 use Rattle.std.proofs.Common.{◌≡◌, ℕ, zero, suc, ◌+◌, ◌-◌, ◌%◌, ◌<◌, ◌≤◌, Bool, true, ◌&&◌, eqb, ltb, ◌∷◌, map, refl, ap, subst, arith, inl, inr}
 use Rattle.std.specs.List.{range_with_len, list_all}
 use Rattle.std.proofs.lemmas.Bool.{and_parts, and_from, eqb-true, eq-eqb, ltb-true, lt-ltb, cases_eq}
-use Rattle.ostore_page_tags.specs.Rules.{rise_by_four, begin_at, end_behind}
+use Rattle.ostore_page_tags.specs.Rules.{rise_by_step, begin_at, end_behind}
 
 -- the first number, or one of the others
 at_or_behind : (P : ℕ → Type 0) (a n i : ℕ) → P a → (a + 1 ≤ i → P i) → a ≤ i → P i
@@ -37,20 +37,20 @@ list_all-range p f a (suc n) h =
 abbrev pub Rises : (ℕ → ℕ) → ℕ → Type 0
 Rises f i = (f i < f (i + 1)) × ((f (i + 1) - f i) % 4 ≡ 0)
 
-pub rises_at-range : (f : ℕ → ℕ) (a n : ℕ) → rise_by_four (map f (range_with_len a n)) ≡ true → (i : ℕ) → a ≤ i → i + 1 < a + n → Rises f i
+pub rises_at-range : (f : ℕ → ℕ) (a n : ℕ) → rise_by_step (map f (range_with_len a n)) ≡ true → (i : ℕ) → a ≤ i → i + 1 < a + n → Rises f i
 rises_at-range f a zero h i low high = absurd (omega arith)
 rises_at-range f a (suc zero) h i low high = absurd (omega arith)
 rises_at-range f a (suc (suc n)) h i low high =
-    let outer = and_parts (ltb (f a) (f (a + 1)) && eqb ((f (a + 1) - f a) % 4) 0) (rise_by_four (map f (range_with_len (a + 1) (suc n)))) h in
+    let outer = and_parts (ltb (f a) (f (a + 1)) && eqb ((f (a + 1) - f a) % 4) 0) (rise_by_step (map f (range_with_len (a + 1) (suc n)))) h in
     let inner = and_parts (ltb (f a) (f (a + 1))) (eqb ((f (a + 1) - f a) % 4) 0) outer.0 in
     at_or_behind (Rises f) a n i (ltb-true (f a) (f (a + 1)) inner.0, eqb-true _ 0 inner.1) (λ behind. rises_at-range f (a + 1) (suc n) outer.1 i behind (omega arith)) low
 
-pub rises-range : (f : ℕ → ℕ) (a n : ℕ) → ((i : ℕ) → a ≤ i → i + 1 < a + n → Rises f i) → rise_by_four (map f (range_with_len a n)) ≡ true
+pub rises-range : (f : ℕ → ℕ) (a n : ℕ) → ((i : ℕ) → a ≤ i → i + 1 < a + n → Rises f i) → rise_by_step (map f (range_with_len a n)) ≡ true
 rises-range f a zero h = refl
 rises-range f a (suc zero) h = refl
 rises-range f a (suc (suc n)) h =
     let here = h a (omega arith) (omega arith) in
-    and_from (ltb (f a) (f (a + 1)) && eqb ((f (a + 1) - f a) % 4) 0) (rise_by_four (map f (range_with_len (a + 1) (suc n))))
+    and_from (ltb (f a) (f (a + 1)) && eqb ((f (a + 1) - f a) % 4) 0) (rise_by_step (map f (range_with_len (a + 1) (suc n))))
     (and_from (ltb (f a) (f (a + 1))) (eqb ((f (a + 1) - f a) % 4) 0) (lt-ltb (f a) (f (a + 1)) here.0) (eq-eqb _ 0 here.1))
     (rises-range f (a + 1) (suc n) (λ i low high. h i (omega arith) (omega arith)))
 

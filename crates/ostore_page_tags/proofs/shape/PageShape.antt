@@ -3,14 +3,16 @@
 use Rattle.std.proofs.Common.{◌≡◌, ℕ, zero, suc, ◌+◌, ◌-◌, ◌*◌, ◌%◌, ◌<◌, ◌≤◌, max, Bool, true, false, ◌&&◌, not, cond, eqb, leb, ltb, List, [], ◌∷◌, length, get_or, map, Some, None, refl, sym, ap, subst, ◌∙◌, arith, inl, inr}
 use Rattle.std.specs.List.{range_with_len, list_all}
 use Rattle.std.proofs.lemmas.Bool.{and_parts, and_from, eqb-true, eq-eqb, leb-true, le-leb, lt-ltb, le-ltb, cases_lt}
+use Rattle.ostore_base.specs.declared.page.TheConstants.{PAGE_SIZE}
+use Rattle.ostore_page_tags.specs.declared.layout.TheConstants.{ROW_BYTES}
 use Rattle.ostore_page_tags.specs.declared.check.PageFault.TheVariants.{BadHeader, RowsOverlap, RowOrder, BadType, CellPastEnd}
 use Rattle.ostore_page_tags.specs.Numbers.{number_at}
 use Rattle.ostore_page_tags.specs.Header.{header_of}
 use Rattle.ostore_page_tags.specs.Rows.{row_in, state_in, states_of}
 use Rattle.ostore_page_tags.specs.Cells.{between}
-use Rattle.ostore_page_tags.specs.Rules.{are_zero, gap_of, has_good_header, have_rows_room, begin_at, rise_by_four, offsets_of, are_rows_in_order, is_tag, have_rows_types, end_behind, is_end_behind_cells, first_fault, IsPage}
-use Rattle.ostore_page_tags.proofs.ImageLaws.{length-between, between_read}
-use Rattle.ostore_page_tags.proofs.RangeLaws.{map-map-range, list_all_at-range, list_all-range, Rises, rises_at-range, rises-range, begins_at-range, begins-range, none_behind-range, last_behind-range, ends_behind-range}
+use Rattle.ostore_page_tags.specs.Rules.{are_zero, gap_of, has_good_header, have_rows_room, begin_at, rise_by_step, offsets_of, are_rows_in_order, is_tag, have_rows_types, end_behind, is_end_behind_cells, first_fault, IsPage}
+use Rattle.ostore_page_tags.proofs.bytes.ImageLaws.{length-between, between_read}
+use Rattle.ostore_page_tags.proofs.shape.RangeLaws.{map-map-range, list_all_at-range, list_all-range, Rises, rises_at-range, rises-range, begins_at-range, begins-range, none_behind-range, last_behind-range, ends_behind-range}
 
 -- the bytes from one place up to another are zero
 pub record ZeroOn (start stop : ℕ) (bytes : List ℕ) : Type 0 where
@@ -34,12 +36,12 @@ abbrev pub offset_in : List ℕ → ℕ → ℕ
 offset_in bytes i = (row_in bytes i).offset
 
 pub record Shape (bytes : List ℕ) : Type 0 where
-  pub whole : length bytes ≡ 4096
+  pub whole : length bytes ≡ PAGE_SIZE
   pub kind : (header_of bytes).kind ≡ 2
   pub spare : number_at 2 6 bytes ≡ 0
   pub tail : ZeroOn 20 32 bytes
-  pub gap : ZeroOn (max 32 (end_in bytes)) (4096 - 8 * rows_in bytes) bytes
-  pub room : 8 * rows_in bytes + end_in bytes ≤ 4096
+  pub gap : ZeroOn (max 32 (end_in bytes)) (PAGE_SIZE - ROW_BYTES * rows_in bytes) bytes
+  pub room : ROW_BYTES * rows_in bytes + end_in bytes ≤ PAGE_SIZE
   pub offsets : Offsets (rows_in bytes) (end_in bytes) (offset_in bytes)
   pub states : (i : ℕ) → i < rows_in bytes → state_in bytes i ≤ 1
   pub tags : (i : ℕ) → i < rows_in bytes → is_tag (row_in bytes i).code (row_in bytes i).serial ≡ true
@@ -91,13 +93,13 @@ lawful_from bytes a b c d e = rw (a, b, c, d, e) refl
 offsets_same : (bytes : List ℕ) → offsets_of bytes ≡ map (offset_in bytes) (range_with_len 0 (rows_in bytes))
 offsets_same bytes = map-map-range (λ row. row.offset) (row_in bytes) 0 (rows_in bytes)
 
-offsets_taken : (bytes : List ℕ) → begin_at 32 (offsets_of bytes) ≡ true → rise_by_four (offsets_of bytes) ≡ true → end_behind (end_in bytes) (offsets_of bytes) ≡ true → end_in bytes % 4 ≡ 0 → Offsets (rows_in bytes) (end_in bytes) (offset_in bytes)
+offsets_taken : (bytes : List ℕ) → begin_at 32 (offsets_of bytes) ≡ true → rise_by_step (offsets_of bytes) ≡ true → end_behind (end_in bytes) (offsets_of bytes) ≡ true → end_in bytes % 4 ≡ 0 → Offsets (rows_in bytes) (end_in bytes) (offset_in bytes)
 offsets_taken bytes begin rise behind fours =
     let n = rows_in bytes in
     let f = offset_in bytes in
     let same = offsets_same bytes in
     let begins : begin_at 32 (map f (range_with_len 0 n)) ≡ true = subst (λ l. begin_at 32 l ≡ true) same begin in
-    let rises : rise_by_four (map f (range_with_len 0 n)) ≡ true = subst (λ l. rise_by_four l ≡ true) same rise in
+    let rises : rise_by_step (map f (range_with_len 0 n)) ≡ true = subst (λ l. rise_by_step l ≡ true) same rise in
     let ends : end_behind (end_in bytes) (map f (range_with_len 0 n)) ≡ true = subst (λ l. end_behind (end_in bytes) l ≡ true) same behind in
     record {
       first = λ some. begins_at-range 32 f 0 n begins some;
@@ -114,16 +116,16 @@ IsPage-shape bytes page =
     let h1 = and_parts (eqb (header_of bytes).kind 2 && eqb (number_at 2 6 bytes) 0 && are_zero (between 20 32 bytes)) (are_zero (gap_of bytes)) rules.0 in
     let h2 = and_parts (eqb (header_of bytes).kind 2 && eqb (number_at 2 6 bytes) 0) (are_zero (between 20 32 bytes)) h1.0 in
     let h3 = and_parts (eqb (header_of bytes).kind 2) (eqb (number_at 2 6 bytes) 0) h2.0 in
-    let o1 = and_parts (begin_at 32 (offsets_of bytes) && rise_by_four (offsets_of bytes)) (list_all (λ state. leb state 1) (states_of bytes)) rules.2 in
-    let o2 = and_parts (begin_at 32 (offsets_of bytes)) (rise_by_four (offsets_of bytes)) o1.0 in
+    let o1 = and_parts (begin_at 32 (offsets_of bytes) && rise_by_step (offsets_of bytes)) (list_all (λ state. leb state 1) (states_of bytes)) rules.2 in
+    let o2 = and_parts (begin_at 32 (offsets_of bytes)) (rise_by_step (offsets_of bytes)) o1.0 in
     let e1 = and_parts (end_behind (end_in bytes) (offsets_of bytes)) (eqb (end_in bytes % 4) 0) rules.4 in
     record {
       whole = page.whole;
       kind = eqb-true _ 2 h3.0;
       spare = eqb-true _ 0 h3.1;
       tail = ZeroOn-between 20 32 bytes h2.1;
-      gap = ZeroOn-between (max 32 (end_in bytes)) (4096 - 8 * n) bytes h1.1;
-      room = leb-true _ 4096 rules.1;
+      gap = ZeroOn-between (max 32 (end_in bytes)) (PAGE_SIZE - ROW_BYTES * n) bytes h1.1;
+      room = leb-true _ PAGE_SIZE rules.1;
       offsets = offsets_taken bytes o2.0 o2.1 e1.0 (eqb-true _ 0 e1.1);
       states = λ i below. leb-true _ 1 (list_all_at-range (λ state. leb state 1) (state_in bytes) 0 n o1.1 i (omega arith) (omega arith));
       tags = λ i below. list_all_at-range (λ row. is_tag row.code row.serial) (row_in bytes) 0 n rules.3 i (omega arith) (omega arith);
@@ -137,21 +139,21 @@ shape-IsPage bytes shape =
     let whole = shape.whole in
     let same = offsets_same bytes in
     let begins : begin_at 32 (offsets_of bytes) ≡ true = subst (λ l. begin_at 32 l ≡ true) (sym same) (begins-range 32 f 0 n offsets.first) in
-    let rises : rise_by_four (offsets_of bytes) ≡ true = subst (λ l. rise_by_four l ≡ true) (sym same) (rises-range f 0 n (λ i low high. offsets.rise i (omega arith))) in
+    let rises : rise_by_step (offsets_of bytes) ≡ true = subst (λ l. rise_by_step l ≡ true) (sym same) (rises-range f 0 n (λ i low high. offsets.rise i (omega arith))) in
     let ends : end_behind (end_in bytes) (offsets_of bytes) ≡ true = subst (λ l. end_behind (end_in bytes) l ≡ true) (sym same) (ends_behind-range (end_in bytes) f 0 n offsets.none (λ i low at. offsets.last i (omega arith))) in
     let header : has_good_header bytes ≡ true =
     and_from (eqb (header_of bytes).kind 2 && eqb (number_at 2 6 bytes) 0 && are_zero (between 20 32 bytes)) (are_zero (gap_of bytes))
     (and_from (eqb (header_of bytes).kind 2 && eqb (number_at 2 6 bytes) 0) (are_zero (between 20 32 bytes))
     (and_from (eqb (header_of bytes).kind 2) (eqb (number_at 2 6 bytes) 0) (eq-eqb _ 2 shape.kind) (eq-eqb _ 0 shape.spare))
     (between-ZeroOn 20 32 bytes (omega arith) shape.tail))
-    (between-ZeroOn (max 32 (end_in bytes)) (4096 - 8 * n) bytes (omega arith) shape.gap) in
+    (between-ZeroOn (max 32 (end_in bytes)) (PAGE_SIZE - ROW_BYTES * n) bytes (omega arith) shape.gap) in
     let order : are_rows_in_order bytes ≡ true =
-    and_from (begin_at 32 (offsets_of bytes) && rise_by_four (offsets_of bytes)) (list_all (λ state. leb state 1) (states_of bytes))
-    (and_from (begin_at 32 (offsets_of bytes)) (rise_by_four (offsets_of bytes)) begins rises)
+    and_from (begin_at 32 (offsets_of bytes) && rise_by_step (offsets_of bytes)) (list_all (λ state. leb state 1) (states_of bytes))
+    (and_from (begin_at 32 (offsets_of bytes)) (rise_by_step (offsets_of bytes)) begins rises)
     (list_all-range (λ state. leb state 1) (state_in bytes) 0 n (λ i low high. le-leb _ 1 (shape.states i (omega arith)))) in
     let types : have_rows_types bytes ≡ true = list_all-range (λ row. is_tag row.code row.serial) (row_in bytes) 0 n (λ i low high. shape.tags i (omega arith)) in
     let last : is_end_behind_cells bytes ≡ true = and_from (end_behind (end_in bytes) (offsets_of bytes)) (eqb (end_in bytes % 4) 0) ends (eq-eqb _ 0 offsets.end_fours) in
-    record { whole = whole; lawful = lawful_from bytes header (le-leb _ 4096 shape.room) order types last }
+    record { whole = whole; lawful = lawful_from bytes header (le-leb _ PAGE_SIZE shape.room) order types last }
 
 -- ---- what follows for offsets
 

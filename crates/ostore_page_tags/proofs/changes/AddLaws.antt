@@ -3,17 +3,20 @@ use Rattle.std.proofs.Common.{◌≡◌, ℕ, ◌+◌, ◌-◌, ◌*◌, ◌%◌
 use Rattle.std.specs.List.{range_with_len}
 use Rattle.std.proofs.lemmas.Bool.{cases_lt, cases_eq}
 use Rattle.std.proofs.lemmas.List.FromFn.{map-range_with_len_more}
+use Rattle.ostore_base.specs.declared.page.TheConstants.{PAGE_SIZE}
+use Rattle.ostore_page_tags.specs.declared.layout.TheConstants.{ROW_BYTES}
 use Rattle.ostore_page_tags.specs.declared.page_header.PageHeader.{PageHeader}
 use Rattle.ostore_page_tags.specs.declared.tag_rows.Row.{Row}
 use Rattle.ostore_page_tags.specs.Header.{header_of, with_header}
-use Rattle.ostore_page_tags.specs.Rows.{row_place, row_in, state_in, with_row}
+use Rattle.ostore_page_tags.specs.Rows.{row_place, row_in, state_in}
+use Rattle.ostore_page_tags.specs.inside.WithRow.{with_row}
 use Rattle.ostore_page_tags.specs.Cells.{Cell, between, cell_to, cells_of}
 use Rattle.ostore_page_tags.specs.Rules.{is_tag, IsPage}
 use Rattle.ostore_page_tags.specs.Changes.{IsCellAsked, live_row, zeroed_cell, grown, AddsCell}
-use Rattle.ostore_page_tags.proofs.ImageLaws.{SameOn, SameOn-within, SameOn-trans, Keeps, number_at-same, between-same, with_header-spare, with_header-behind}
-use Rattle.ostore_page_tags.proofs.RangeLaws.{map-range-same}
-use Rattle.ostore_page_tags.proofs.PageShape.{Offsets, rows_in, end_in, offset_in, Shape, IsPage-shape, shape-IsPage, offset_below, offset_fours, end_above, stop_at, stop_more, stop_last, cell_range}
-use Rattle.ostore_page_tags.proofs.CellLaws.{ZeroOn-within, ZeroOn-same, between-zeros, row_in-same, state_in-same, cell_in, cells_are, cell_same, cell_made, IsRowWide, with_row-before, with_row-behind, row_in-with_row}
+use Rattle.ostore_page_tags.proofs.bytes.ImageLaws.{SameOn, SameOn-within, SameOn-trans, Keeps, number_at-same, between-same, with_header-spare, with_header-behind}
+use Rattle.ostore_page_tags.proofs.shape.RangeLaws.{map-range-same}
+use Rattle.ostore_page_tags.proofs.shape.PageShape.{Offsets, rows_in, end_in, offset_in, Shape, IsPage-shape, shape-IsPage, offset_below, offset_fours, end_above, stop_at, stop_more, stop_last, cell_range}
+use Rattle.ostore_page_tags.proofs.parts.CellLaws.{ZeroOn-within, ZeroOn-same, between-zeros, row_in-same, state_in-same, cell_in, cells_are, cell_same, cell_made, IsRowWide, with_row-before, with_row-behind, row_in-with_row}
 
 -- the row and the header of a cell were written into a page with room for them, and other bytes stay
 pub record IsGrown (old new : List ℕ) (size code serial : ℕ) : Type 0 where
@@ -23,7 +26,7 @@ pub record IsGrown (old new : List ℕ) (size code serial : ℕ) : Type 0 where
   pub state : state_in new (rows_in old) ≤ 1
   pub spare : SameOn 6 8 new old
   pub front : SameOn 20 (row_place (rows_in old)) new old
-  pub back : SameOn (4096 - 8 * rows_in old) 4096 new old
+  pub back : SameOn (PAGE_SIZE - ROW_BYTES * rows_in old) PAGE_SIZE new old
 
 mod_more : (a b : ℕ) → a % 4 ≡ 0 → b % 4 ≡ 0 → (a + b) % 4 ≡ 0
 mod_more a b first second = omega arith
@@ -63,16 +66,16 @@ offsets_push rows end size offset more law same last some fours = record {
 }
 
 -- the rows that were there
-grown_row : (old new : List ℕ) (size code serial : ℕ) → 8 * rows_in old ≤ 4096 → IsGrown old new size code serial → (i : ℕ) → i < rows_in old → row_in new i ≡ row_in old i
+grown_row : (old new : List ℕ) (size code serial : ℕ) → ROW_BYTES * rows_in old ≤ PAGE_SIZE → IsGrown old new size code serial → (i : ℕ) → i < rows_in old → row_in new i ≡ row_in old i
 grown_row old new size code serial room change i below =
-    row_in-same i new old (SameOn-within (4096 - 8 * rows_in old) 4096 (row_place i) (row_place i + 8) new old change.back (omega arith) (omega arith))
+    row_in-same i new old (SameOn-within (PAGE_SIZE - ROW_BYTES * rows_in old) PAGE_SIZE (row_place i) (row_place i + ROW_BYTES) new old change.back (omega arith) (omega arith))
 
-grown_state : (old new : List ℕ) (size code serial : ℕ) → 8 * rows_in old ≤ 4096 → IsGrown old new size code serial → (i : ℕ) → i < rows_in old → state_in new i ≡ state_in old i
+grown_state : (old new : List ℕ) (size code serial : ℕ) → ROW_BYTES * rows_in old ≤ PAGE_SIZE → IsGrown old new size code serial → (i : ℕ) → i < rows_in old → state_in new i ≡ state_in old i
 grown_state old new size code serial room change i below =
-    state_in-same i new old (SameOn-within (4096 - 8 * rows_in old) 4096 (row_place i) (row_place i + 8) new old change.back (omega arith) (omega arith))
+    state_in-same i new old (SameOn-within (PAGE_SIZE - ROW_BYTES * rows_in old) PAGE_SIZE (row_place i) (row_place i + ROW_BYTES) new old change.back (omega arith) (omega arith))
 
 -- the page is good again
-grown_shape : (old new : List ℕ) (size code serial : ℕ) → Shape old → IsCellAsked size code serial → 8 * rows_in old + end_in old + size + 8 ≤ 4096 → IsGrown old new size code serial → Shape new
+grown_shape : (old new : List ℕ) (size code serial : ℕ) → Shape old → IsCellAsked size code serial → ROW_BYTES * rows_in old + end_in old + size + 8 ≤ PAGE_SIZE → IsGrown old new size code serial → Shape new
 grown_shape old new size code serial shape asked room change =
     let n = rows_in old in
     let e = end_in old in
@@ -104,7 +107,7 @@ grown_shape old new size code serial shape asked room change =
     }
 
 -- a cell that was there is as it was
-grown_cell : (old new : List ℕ) (size code serial : ℕ) → Shape old → 8 * rows_in old + end_in old + size + 8 ≤ 4096 → IsGrown old new size code serial → (i : ℕ) → i < rows_in old
+grown_cell : (old new : List ℕ) (size code serial : ℕ) → Shape old → ROW_BYTES * rows_in old + end_in old + size + 8 ≤ PAGE_SIZE → IsGrown old new size code serial → (i : ℕ) → i < rows_in old
     → cell_in (rows_in old + 1) (end_in old + size) new (row_in new) i ≡ cell_in (rows_in old) (end_in old) old (row_in old) i
 grown_cell old new size code serial shape room change i below =
     let n = rows_in old in
@@ -125,7 +128,7 @@ grown_cell old new size code serial shape room change i below =
     (between-same (was i) (stop_at n e was i) new old (omega (arith, range.most)) (omega (arith, range.most))
     (SameOn-within 20 (row_place n) (was i) (stop_at n e was i) new old change.front (omega (arith, range.above)) (omega (arith, range.most))))
 
-pub grown-AddsCell : (old new : List ℕ) (size code serial : ℕ) → IsPage old → IsCellAsked size code serial → 8 * rows_in old + end_in old + size + 8 ≤ 4096 → IsGrown old new size code serial → AddsCell old new size code serial
+pub grown-AddsCell : (old new : List ℕ) (size code serial : ℕ) → IsPage old → IsCellAsked size code serial → ROW_BYTES * rows_in old + end_in old + size + 8 ≤ PAGE_SIZE → IsGrown old new size code serial → AddsCell old new size code serial
 grown-AddsCell old new size code serial page asked room change =
     let shape = IsPage-shape old page in
     let n = rows_in old in
@@ -140,7 +143,7 @@ grown-AddsCell old new size code serial page asked room change =
     map-range-same cell (cell_in n e old (row_in old)) 0 n (λ i low high. grown_cell old new size code serial shape room change i (omega arith)) ∙ sym (cells_are n e old refl refl) in
     let zeros : between e (e + size) new ≡ replicate size 0 =
     between-zeros e (e + size) new (omega arith)
-    (ZeroOn-same e (e + size) new old (ZeroOn-within (max 32 e) (4096 - 8 * n) e (e + size) old shape.gap (omega arith) (omega arith)) (SameOn-within 20 (row_place n) e (e + size) new old change.front (omega arith) (omega arith)))
+    (ZeroOn-same e (e + size) new old (ZeroOn-within (max 32 e) (PAGE_SIZE - ROW_BYTES * n) e (e + size) old shape.gap (omega arith) (omega arith)) (SameOn-within 20 (row_place n) e (e + size) new old change.front (omega arith) (omega arith)))
     ∙ ap (λ (m : ℕ). replicate m 0) (omega arith) in
     let last : cell n ≡ zeroed_cell (live_row e code serial) size =
     let stop : stop_at (n + 1) (e + size) (offset_in new) n ≡ e + size = stop_last (n + 1) (e + size) (offset_in new) n (omega arith) in
@@ -152,22 +155,22 @@ grown-AddsCell old new size code serial page asked room change =
     }
 
 -- the added row and the raised end, as they are written
-grown_written : (old mid new : List ℕ) (size code serial : ℕ) → IsPage old → IsCellAsked size code serial → 8 * rows_in old + end_in old + size + 8 ≤ 4096 → code < 256 → serial < 4294967296
+grown_written : (old mid new : List ℕ) (size code serial : ℕ) → IsPage old → IsCellAsked size code serial → ROW_BYTES * rows_in old + end_in old + size + 8 ≤ PAGE_SIZE → code < 256 → serial < 4294967296
     → mid ≡ with_row (rows_in old) (live_row (end_in old) code serial) old → new ≡ with_header (grown (header_of old) size) mid → header_of new ≡ grown (header_of old) size → IsGrown old new size code serial
 grown_written old mid new size code serial page asked room small narrow row header read =
     let n = rows_in old in
     let added : Row = live_row (end_in old) code serial in
-    let whole : length old ≡ 4096 = page.whole in
+    let whole : length old ≡ PAGE_SIZE = page.whole in
     let above : 32 ≤ end_in old = end_above n (end_in old) (offset_in old) (IsPage-shape old page).offsets in
     let wide : IsRowWide added = record { offset = omega arith; code = small; serial = narrow } in
     let spare : Keeps 6 8 mid old = subst (λ (m : List ℕ). Keeps 6 8 m old) (sym row) (with_row-before n 6 8 added old (omega arith) (omega arith)) in
     let front : Keeps 20 (row_place n) mid old = subst (λ (m : List ℕ). Keeps 20 (row_place n) m old) (sym row) (with_row-before n 20 (row_place n) added old (omega arith) (omega arith)) in
-    let back : Keeps (4096 - 8 * n) 4096 mid old = subst (λ (m : List ℕ). Keeps (4096 - 8 * n) 4096 m old) (sym row) (with_row-behind n (4096 - 8 * n) 4096 added old (omega arith) (omega arith)) in
+    let back : Keeps (PAGE_SIZE - ROW_BYTES * n) PAGE_SIZE mid old = subst (λ (m : List ℕ). Keeps (PAGE_SIZE - ROW_BYTES * n) PAGE_SIZE m old) (sym row) (with_row-behind n (PAGE_SIZE - ROW_BYTES * n) PAGE_SIZE added old (omega arith) (omega arith)) in
     let long : length mid ≡ length old = front.long in
     let put : (row_in mid n ≡ added) × (state_in mid n ≤ 1) = subst (λ (m : List ℕ). (row_in m n ≡ added) × (state_in m n ≤ 1)) (sym row) (row_in-with_row n added old (omega arith) wide) in
-    let behind : Keeps 20 4096 new mid = subst (λ (b : List ℕ). Keeps 20 4096 b mid) (sym header) (with_header-behind (grown (header_of old) size) 4096 mid (omega arith)) in
+    let behind : Keeps 20 PAGE_SIZE new mid = subst (λ (b : List ℕ). Keeps 20 PAGE_SIZE b mid) (sym header) (with_header-behind (grown (header_of old) size) PAGE_SIZE mid (omega arith)) in
     let between : Keeps 6 8 new mid = subst (λ (b : List ℕ). Keeps 6 8 b mid) (sym header) (with_header-spare (grown (header_of old) size) mid (omega arith)) in
-    let there : SameOn (row_place n) (row_place n + 8) new mid = SameOn-within 20 4096 (row_place n) (row_place n + 8) new mid behind.same (omega arith) (omega arith) in
+    let there : SameOn (row_place n) (row_place n + ROW_BYTES) new mid = SameOn-within 20 PAGE_SIZE (row_place n) (row_place n + ROW_BYTES) new mid behind.same (omega arith) (omega arith) in
     let state = state_in-same n new mid there in
     record {
       long = behind.long ∙ long;
@@ -175,19 +178,19 @@ grown_written old mid new size code serial page asked room small narrow row head
       row = row_in-same n new mid there ∙ put.0;
       state = omega (arith, put.1);
       spare = SameOn-trans 6 8 new mid old between.same spare.same;
-      front = SameOn-trans 20 (row_place n) new mid old (SameOn-within 20 4096 20 (row_place n) new mid behind.same (omega arith) (omega arith)) front.same;
-      back = SameOn-trans (4096 - 8 * n) 4096 new mid old (SameOn-within 20 4096 (4096 - 8 * n) 4096 new mid behind.same (omega arith) (omega arith)) back.same;
+      front = SameOn-trans 20 (row_place n) new mid old (SameOn-within 20 PAGE_SIZE 20 (row_place n) new mid behind.same (omega arith) (omega arith)) front.same;
+      back = SameOn-trans (PAGE_SIZE - ROW_BYTES * n) PAGE_SIZE new mid old (SameOn-within 20 PAGE_SIZE (PAGE_SIZE - ROW_BYTES * n) PAGE_SIZE new mid behind.same (omega arith) (omega arith)) back.same;
     }
 
 -- what a writer of the row and the header adds
-pub written-AddsCell : (old mid new : List ℕ) (was : PageHeader) (size code serial : ℕ) → was ≡ header_of old → IsPage old → IsCellAsked size code serial → 8 * was.rows + was.end + size + 8 ≤ 4096 → code < 256 → serial < 4294967296
+pub written-AddsCell : (old mid new : List ℕ) (was : PageHeader) (size code serial : ℕ) → was ≡ header_of old → IsPage old → IsCellAsked size code serial → ROW_BYTES * was.rows + was.end + size + 8 ≤ PAGE_SIZE → code < 256 → serial < 4294967296
     → mid ≡ with_row was.rows (live_row was.end code serial) old → new ≡ with_header (grown was size) mid → header_of new ≡ grown was size → AddsCell old new size code serial
 written-AddsCell old mid new was size code serial same page asked room small narrow row header read =
-    let room : 8 * rows_in old + end_in old + size + 8 ≤ 4096 = subst (λ (h : PageHeader). 8 * h.rows + h.end + size + 8 ≤ 4096) same room in
+    let room : ROW_BYTES * rows_in old + end_in old + size + 8 ≤ PAGE_SIZE = subst (λ (h : PageHeader). ROW_BYTES * h.rows + h.end + size + 8 ≤ PAGE_SIZE) same room in
     let row : mid ≡ with_row (rows_in old) (live_row (end_in old) code serial) old = subst (λ (h : PageHeader). mid ≡ with_row h.rows (live_row h.end code serial) old) same row in
     let header : new ≡ with_header (grown (header_of old) size) mid = subst (λ (h : PageHeader). new ≡ with_header (grown h size) mid) same header in
     let read : header_of new ≡ grown (header_of old) size = subst (λ (h : PageHeader). header_of new ≡ grown h size) same read in
     grown-AddsCell old new size code serial page asked room (grown_written old mid new size code serial page asked room small narrow row header read)
 
-pub IsPage-room : (bytes : List ℕ) (was : PageHeader) → was ≡ header_of bytes → IsPage bytes → 8 * was.rows + was.end ≤ 4096
-IsPage-room bytes was same page = subst (λ (h : PageHeader). 8 * h.rows + h.end ≤ 4096) (sym same) (IsPage-shape bytes page).room
+pub IsPage-room : (bytes : List ℕ) (was : PageHeader) → was ≡ header_of bytes → IsPage bytes → ROW_BYTES * was.rows + was.end ≤ PAGE_SIZE
+IsPage-room bytes was same page = subst (λ (h : PageHeader). ROW_BYTES * h.rows + h.end ≤ PAGE_SIZE) (sym same) (IsPage-shape bytes page).room

@@ -5,6 +5,8 @@ use Rattle.std.specs.Option.{option_map}
 use Rattle.std.proofs.lemmas.Bool.{cases_lt, cases_eq, eq-eqb, ne_eqb}
 use Rattle.std.proofs.lemmas.Option.{same_Some}
 use Rattle.ostore_base.specs.Disk.{replaced}
+use Rattle.ostore_base.specs.declared.page.TheConstants.{PAGE_SIZE}
+use Rattle.ostore_page_tags.specs.declared.layout.TheConstants.{ROW_BYTES}
 use Rattle.ostore_page_tags.specs.declared.page_header.PageHeader.{PageHeader}
 use Rattle.ostore_page_tags.specs.declared.tag_rows.Row.{Row}
 use Rattle.ostore_page_tags.specs.Header.{header_of, with_header}
@@ -12,12 +14,12 @@ use Rattle.ostore_page_tags.specs.Rows.{row_place, row_in, rows_of}
 use Rattle.ostore_page_tags.specs.Cells.{Cell, between, cell_to, cells_of}
 use Rattle.ostore_page_tags.specs.Rules.{is_tag, IsPage}
 use Rattle.ostore_page_tags.specs.Changes.{edited_at, EditsCell}
-use Rattle.ostore_page_tags.proofs.ImageLaws.{SameOn, SameOn-within, Keeps, number_at-same, between-same, length-replaced_within, between-replaced_within, SameOn-replaced_before, SameOn-replaced_behind, with_header-spare, with_header-behind, IsHeaderWide, header_of-with_header}
-use Rattle.ostore_page_tags.proofs.RangeLaws.{map-range-same, map-map-range}
-use Rattle.ostore_page_tags.proofs.PageShape.{Offsets, rows_in, end_in, offset_in, Shape, IsPage-shape, shape-IsPage, offset_order, end_above, stop_at, stop_more, stop_last, IsCellRange, cell_range, cell_before}
-use Rattle.ostore_page_tags.proofs.CellLaws.{ZeroOn-same, header_of-same, row_in-same, state_in-same, cell_in, cells_are, cell_same, cell_made}
-use Rattle.ostore_page_tags.proofs.NthLaws.{slice_get-range, rows_counted}
-use Rattle.ostore_page_tags.proofs.DeadLaws.{stop_in, offsets_moved, cell_end-stop}
+use Rattle.ostore_page_tags.proofs.bytes.ImageLaws.{SameOn, SameOn-within, Keeps, number_at-same, between-same, length-replaced_within, between-replaced_within, SameOn-replaced_before, SameOn-replaced_behind, with_header-spare, with_header-behind, IsHeaderWide, header_of-with_header}
+use Rattle.ostore_page_tags.proofs.shape.RangeLaws.{map-range-same, map-map-range}
+use Rattle.ostore_page_tags.proofs.shape.PageShape.{Offsets, rows_in, end_in, offset_in, Shape, IsPage-shape, shape-IsPage, offset_order, end_above, stop_at, stop_more, stop_last, IsCellRange, cell_range, cell_before}
+use Rattle.ostore_page_tags.proofs.parts.CellLaws.{ZeroOn-same, header_of-same, row_in-same, state_in-same, cell_in, cells_are, cell_same, cell_made}
+use Rattle.ostore_page_tags.proofs.walks.NthLaws.{slice_get-range, rows_counted}
+use Rattle.ostore_page_tags.proofs.changes.DeadLaws.{stop_in, offsets_moved, cell_end-stop}
 
 -- what the rules read is as it was
 pub record IsAlike (old new : List ℕ) : Type 0 where
@@ -27,12 +29,12 @@ pub record IsAlike (old new : List ℕ) : Type 0 where
   pub end : end_in new ≡ end_in old
   pub spare : SameOn 6 8 new old
   pub tail : SameOn 20 32 new old
-  pub behind : SameOn (end_in old) 4096 new old
+  pub behind : SameOn (end_in old) PAGE_SIZE new old
 
-alike_place : (old new : List ℕ) → Shape old → IsAlike old new → (j : ℕ) → j < rows_in old → SameOn (row_place j) (row_place j + 8) new old
+alike_place : (old new : List ℕ) → Shape old → IsAlike old new → (j : ℕ) → j < rows_in old → SameOn (row_place j) (row_place j + ROW_BYTES) new old
 alike_place old new shape alike j below =
     let room = shape.room in
-    SameOn-within (end_in old) 4096 (row_place j) (row_place j + 8) new old alike.behind (omega arith) (omega arith)
+    SameOn-within (end_in old) PAGE_SIZE (row_place j) (row_place j + ROW_BYTES) new old alike.behind (omega arith) (omega arith)
 
 alike_row : (old new : List ℕ) → Shape old → IsAlike old new → (j : ℕ) → j < rows_in old → row_in new j ≡ row_in old j
 alike_row old new shape alike j below = row_in-same j new old (alike_place old new shape alike j below)
@@ -106,22 +108,22 @@ pub with_header-IsPage : (header : PageHeader) (bytes : List ℕ) → IsPage byt
 with_header-IsPage header bytes page wide kind rows end =
     let new : List ℕ = with_header header bytes in
     let shape = IsPage-shape bytes page in
-    let whole : length bytes ≡ 4096 = shape.whole in
+    let whole : length bytes ≡ PAGE_SIZE = shape.whole in
     let above : 32 ≤ end_in bytes = end_above (rows_in bytes) (end_in bytes) (offset_in bytes) shape.offsets in
     let room = shape.room in
     let read : header_of new ≡ header = header_of-with_header header bytes (omega arith) wide in
     let spare : Keeps 6 8 new bytes = with_header-spare header bytes (omega arith) in
-    let behind : Keeps 20 4096 new bytes = with_header-behind header 4096 bytes (omega arith) in
+    let behind : Keeps 20 PAGE_SIZE new bytes = with_header-behind header PAGE_SIZE bytes (omega arith) in
     let alike : IsAlike bytes new = record {
       long = behind.long;
       kind = ap (λ (h : PageHeader). h.kind) read ∙ kind;
       rows = ap (λ (h : PageHeader). h.rows) read ∙ rows;
       end = ap (λ (h : PageHeader). h.end) read ∙ end;
       spare = spare.same;
-      tail = SameOn-within 20 4096 20 32 new bytes behind.same (omega arith) (omega arith);
-      behind = SameOn-within 20 4096 (end_in bytes) 4096 new bytes behind.same (omega arith) (omega arith);
+      tail = SameOn-within 20 PAGE_SIZE 20 32 new bytes behind.same (omega arith) (omega arith);
+      behind = SameOn-within 20 PAGE_SIZE (end_in bytes) PAGE_SIZE new bytes behind.same (omega arith) (omega arith);
     } in
-    (alike-IsPage bytes new page alike, alike-cells bytes new page alike (SameOn-within 20 4096 32 (end_in bytes) new bytes behind.same (omega arith) (omega arith)))
+    (alike-IsPage bytes new page alike, alike-cells bytes new page alike (SameOn-within 20 PAGE_SIZE 32 (end_in bytes) new bytes behind.same (omega arith) (omega arith)))
 
 -- ---- bytes of one cell
 
@@ -130,7 +132,7 @@ pub record IsEdited (old new : List ℕ) (i : ℕ) : Type 0 where
   pub long : length new ≡ length old
   pub below : i < rows_in old
   pub before : SameOn 0 (offset_in old i) new old
-  pub behind : SameOn (stop_in old i) 4096 new old
+  pub behind : SameOn (stop_in old i) PAGE_SIZE new old
 
 pub edited-IsAlike : (old new : List ℕ) (i : ℕ) → IsPage old → IsEdited old new i → IsAlike old new
 edited-IsAlike old new i page edit =
@@ -146,7 +148,7 @@ edited-IsAlike old new i page edit =
       end = ap (λ (h : PageHeader). h.end) header;
       spare = SameOn-within 0 (offset_in old i) 6 8 new old edit.before (omega arith) (omega arith);
       tail = SameOn-within 0 (offset_in old i) 20 32 new old edit.before (omega arith) (omega arith);
-      behind = SameOn-within (stop_in old i) 4096 (end_in old) 4096 new old edit.behind (omega arith) (omega arith);
+      behind = SameOn-within (stop_in old i) PAGE_SIZE (end_in old) PAGE_SIZE new old edit.behind (omega arith) (omega arith);
     }
 
 edited_cell : (old new : List ℕ) (i : ℕ) → IsPage old → IsEdited old new i → (j : ℕ) → j < rows_in old
@@ -181,7 +183,7 @@ edited_cell old new i page edit j below =
                 SameOn-within 0 (offset_in old i) (offset_in old j) (stop_in old j) new old edit.before (omega arith) order
             | inr late ↦
                 let order = cell_before rows end (offset_in old) law i j (omega arith) below in
-                SameOn-within (stop_in old i) 4096 (offset_in old j) (stop_in old j) new old edit.behind order (omega arith)
+                SameOn-within (stop_in old i) PAGE_SIZE (offset_in old j) (stop_in old j) new old edit.behind order (omega arith)
           ] in
           alike_cell old new shape alike j below stays
           ∙ ap (λ (b : Bool). cond b (cell_made was.row bytes) was) (sym miss)
@@ -217,7 +219,7 @@ replaced-IsEdited at bytes old i page below low high =
       long = length-replaced_within at bytes old (omega arith);
       below = below;
       before = SameOn-replaced_before at 0 (offset_in old i) bytes old (omega arith) (omega arith);
-      behind = SameOn-replaced_behind at (stop_in old i) 4096 bytes old (omega arith) (omega arith);
+      behind = SameOn-replaced_behind at (stop_in old i) PAGE_SIZE bytes old (omega arith) (omega arith);
     }
 
 -- a writer of bytes within a cell edits the cell, and leaves a good page
@@ -252,7 +254,7 @@ written-EditsCell at bytes old i end row page there told stops low high =
 
 -- where the cell of a row lies, in the words of nth_row and cell_end
 pub walked-IsCellRange : (bytes : List ℕ) (i end : ℕ) (row : Row) → IsPage bytes → i < length (rows_of bytes) → slice_get (rows_of bytes) i ≡ Some row
-    → option_map (λ cell. cell.row.offset + length cell.bytes) (slice_get (cells_of bytes) i) ≡ Some end → IsCellRange row.offset end (header_of bytes).end × ((header_of bytes).end ≤ 4096)
+    → option_map (λ cell. cell.row.offset + length cell.bytes) (slice_get (cells_of bytes) i) ≡ Some end → IsCellRange row.offset end (header_of bytes).end × ((header_of bytes).end ≤ PAGE_SIZE)
 walked-IsCellRange bytes i end row page there told stops =
     let below : i < rows_in bytes = omega (arith, rows_counted bytes) in
     let shape = IsPage-shape bytes page in

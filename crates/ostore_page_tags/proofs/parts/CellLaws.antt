@@ -3,13 +3,15 @@ use Rattle.std.proofs.Common.{◌≡◌, ℕ, zero, suc, ◌+◌, ◌-◌, ◌<�
 use Rattle.std.specs.List.{range_with_len}
 use Rattle.std.proofs.lemmas.Bool.{lt-ltb, le-ltb}
 use Rattle.std.proofs.lemmas.List.{same_lists, get_or_default, get_or-replicate, length-replicate}
+use Rattle.ostore_page_tags.specs.declared.layout.TheConstants.{ROW_BYTES}
 use Rattle.ostore_page_tags.specs.declared.tag_rows.Row.{Row}
 use Rattle.ostore_page_tags.specs.Numbers.{number_at, with_number}
 use Rattle.ostore_page_tags.specs.Header.{header_of}
-use Rattle.ostore_page_tags.specs.Rows.{row_place, row_in, state_in, state_number, rows_of, with_row}
+use Rattle.ostore_page_tags.specs.Rows.{row_place, row_in, state_in, rows_of}
+use Rattle.ostore_page_tags.specs.inside.WithRow.{state_number, with_row}
 use Rattle.ostore_page_tags.specs.Cells.{Cell, between, cell_to, cells_from, cells_of}
-use Rattle.ostore_page_tags.proofs.ImageLaws.{SameOn, SameOn-within, number_at-same, length-between, between_read, header_same, length-with_number, Keeps, Keeps-refl, Keeps-trans, Keeps-within, keeps_before, keeps_behind, reads_kept}
-use Rattle.ostore_page_tags.proofs.PageShape.{ZeroOn, rows_in, end_in, stop_at}
+use Rattle.ostore_page_tags.proofs.bytes.ImageLaws.{SameOn, SameOn-within, number_at-same, length-between, between_read, header_same, length-with_number, Keeps, Keeps-refl, Keeps-trans, Keeps-within, keeps_before, keeps_behind, reads_kept}
+use Rattle.ostore_page_tags.proofs.shape.PageShape.{ZeroOn, rows_in, end_in, stop_at}
 
 -- ---- zeros
 
@@ -48,7 +50,7 @@ row_made offset code live serial = record { offset = offset; code = code; live =
 pub row_same : (offset code : ℕ) (live : Bool) (serial : ℕ) (row : Row) → offset ≡ row.offset → code ≡ row.code → live ≡ row.live → serial ≡ row.serial → row_made offset code live serial ≡ row
 row_same offset code live serial row a b c d = rw (a, b, c, d) refl
 
-pub row_in-same : (i : ℕ) (first second : List ℕ) → SameOn (row_place i) (row_place i + 8) first second → row_in first i ≡ row_in second i
+pub row_in-same : (i : ℕ) (first second : List ℕ) → SameOn (row_place i) (row_place i + ROW_BYTES) first second → row_in first i ≡ row_in second i
 row_in-same i first second same =
     let at = row_place i in
     let offset = number_at-same 2 at first second (SameOn-within at (at + 8) at (at + 2) first second same (omega arith) (omega arith)) in
@@ -57,7 +59,7 @@ row_in-same i first second same =
     let serial = number_at-same 4 (at + 4) first second (SameOn-within at (at + 8) (at + 4) (at + 4 + 4) first second same (omega arith) (omega arith)) in
     row_same _ _ _ _ (row_in second i) offset code (ap (λ s. eqb s 1) state) serial
 
-pub state_in-same : (i : ℕ) (first second : List ℕ) → SameOn (row_place i) (row_place i + 8) first second → state_in first i ≡ state_in second i
+pub state_in-same : (i : ℕ) (first second : List ℕ) → SameOn (row_place i) (row_place i + ROW_BYTES) first second → state_in first i ≡ state_in second i
 state_in-same i first second same =
     let at = row_place i in
     number_at-same 1 (at + 3) first second (SameOn-within at (at + 8) (at + 3) (at + 3 + 1) first second same (omega arith) (omega arith))
@@ -89,14 +91,14 @@ cell_made row bytes = record { row = row; bytes = bytes }
 
 -- ---- the image with a row written
 
-pub with_row-before : (i start stop : ℕ) (row : Row) (bytes : List ℕ) → stop ≤ row_place i → row_place i + 8 ≤ length bytes → Keeps start stop (with_row i row bytes) bytes
+pub with_row-before : (i start stop : ℕ) (row : Row) (bytes : List ℕ) → stop ≤ row_place i → row_place i + ROW_BYTES ≤ length bytes → Keeps start stop (with_row i row bytes) bytes
 with_row-before i start stop row bytes below within =
     let at = row_place i in
     keeps_before start stop 4 (at + 4) row.serial _ bytes (keeps_before start stop 1 (at + 3) (state_number row.live) _ bytes
     (keeps_before start stop 1 (at + 2) row.code _ bytes (keeps_before start stop 2 at row.offset bytes bytes (Keeps-refl start stop bytes)
     (omega arith) (omega arith)) (omega arith) (omega arith)) (omega arith) (omega arith)) (omega arith) (omega arith)
 
-pub with_row-behind : (i start stop : ℕ) (row : Row) (bytes : List ℕ) → row_place i + 8 ≤ start → row_place i + 8 ≤ length bytes → Keeps start stop (with_row i row bytes) bytes
+pub with_row-behind : (i start stop : ℕ) (row : Row) (bytes : List ℕ) → row_place i + ROW_BYTES ≤ start → row_place i + ROW_BYTES ≤ length bytes → Keeps start stop (with_row i row bytes) bytes
 with_row-behind i start stop row bytes above within =
     let at = row_place i in
     keeps_behind start stop 4 (at + 4) row.serial _ bytes (keeps_behind start stop 1 (at + 3) (state_number row.live) _ bytes
@@ -118,7 +120,7 @@ state_number-le true = omega arith
 state_number-le false = omega arith
 
 -- what is written is read
-pub row_in-with_row : (i : ℕ) (row : Row) (bytes : List ℕ) → row_place i + 8 ≤ length bytes → IsRowWide row → (row_in (with_row i row bytes) i ≡ row) × (state_in (with_row i row bytes) i ≤ 1)
+pub row_in-with_row : (i : ℕ) (row : Row) (bytes : List ℕ) → row_place i + ROW_BYTES ≤ length bytes → IsRowWide row → (row_in (with_row i row bytes) i ≡ row) × (state_in (with_row i row bytes) i ≤ 1)
 row_in-with_row i row bytes within wide =
     let at : ℕ = row_place i in
     let number : ℕ = state_number row.live in

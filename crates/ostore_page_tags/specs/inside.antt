@@ -1,0 +1,4 @@
+pub mod RowsFit
+pub mod WithRow
+pub mod PartsRows
+pub mod AreBytes
