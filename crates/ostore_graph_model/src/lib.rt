@@ -4,8 +4,10 @@
 
 mod commands;
 mod history;
+mod refusal;
 mod values;
 
 pub use commands::{Command, Commands, Idents, Key, Op, Operand, Script, Txn, TxnLists, Txns};
 pub use history::{Committed, Entry};
-pub use values::{Listed, Name, Names, Refusal, Replies, Reply, Value};
+pub use refusal::Refusal;
+pub use values::{Listed, Name, Names, Replies, Reply, Value};
