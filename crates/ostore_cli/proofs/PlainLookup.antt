@@ -13,7 +13,7 @@ use Rattle.ostore_schema_layout.specs.declared.schema.MemberKind.{MemberKind}
 use Rattle.ostore_schema_layout.specs.Numbers.{place_named, members_of, member_named, member_of_place}
 use Rattle.ostore_graph_model.specs.declared.values.Name.{Name}
 use Rattle.ostore_graph_model.specs.declared.values.Value.{Value}
-use Rattle.ostore_graph_model.specs.declared.values.Refusal.TheVariants.{NoMember, Dangling}
+use Rattle.ostore_graph_model.specs.declared.refusal.Refusal.TheVariants.{NoMember, Dangling}
 use Rattle.ostore_graph_model.specs.Orders.{name_cmp}
 use Rattle.ostore_graph_model.specs.Graph.{Graph, Object}
 use Rattle.ostore_graph_model.specs.Step.{Vars, Stepped, with_value, refused, at_member, at_name, at_object, at_number, at_def}

@@ -3,7 +3,7 @@ use Rattle.std.proofs.Common.{◌≡◌, ℕ, ◌<◌, ◌≤◌, List, length, 
 use Rattle.std.specs.Prelude.{IfSome, codes}
 use Rattle.std.proofs.lemmas.Bool.{false≢true, cases_lt, lt-leb}
 use Rattle.std.proofs.lemmas.List.{take_all, length-take}
-use Rattle.ostore_job_text.specs.Refusals.{refusal_line}
+use Rattle.ostore_job_text.specs.FaultLine.{refusal_line}
 use Rattle.ostore_job_text.specs.Spelling.{Says, IsRefused}
 use Rattle.ostore_cli.specs.declared.streams.reading.TheConstants.{LONGEST_READ}
 use Rattle.ostore_cli.specs.declared.answers.Answer.{Answer}

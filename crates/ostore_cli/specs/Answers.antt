@@ -2,7 +2,7 @@
 use Rattle.std.specs.Prelude.{◌≡◌, ◌⊎◌, ℕ, List, codes}
 use Rattle.ostore_base.specs.Faults.{Rose}
 use Rattle.ostore_schema_layout.specs.declared.fault.SchemaFault.{SchemaFault as Fault}
-use Rattle.ostore_job_text.specs.Refusals.{fault_line, refusal_line}
+use Rattle.ostore_job_text.specs.FaultLine.{fault_line, refusal_line}
 use Rattle.ostore_job_text.specs.Spelling.{IsRefused}
 use Rattle.ostore_cli.specs.Commands.{IsRow}
 use Rattle.ostore_cli.specs.Streams.{IsWholeRead}

@@ -11,7 +11,7 @@ use Rattle.ostore_job_text.specs.declared.results.Tail.{Tail}
 use Rattle.ostore_job_text.specs.declared.results.TxnResult.{TxnResult}
 use Rattle.ostore_job_text.specs.Report.{report}
 use Rattle.ostore_job_text.specs.Results.{script_of, committed_of, EndedAtOnce}
-use Rattle.ostore_job_text.specs.Refusals.{refusal_line}
+use Rattle.ostore_job_text.specs.FaultLine.{refusal_line}
 use Rattle.ostore_job_text.specs.Spelling.{Says, IsRefused}
 use Rattle.ostore_cli.specs.Commands.{IsRow}
 use Rattle.ostore_cli.specs.Streams.{IsWholeRead, AppendsFront}

@@ -1,3 +1,4 @@
+pub mod Refusals
 pub mod Orders
 pub mod Graph
 pub mod Step

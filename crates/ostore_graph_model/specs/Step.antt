@@ -15,8 +15,8 @@ use Rattle.ostore_graph_model.specs.declared.values.Value.{Value}
 use Rattle.ostore_graph_model.specs.declared.values.Value.TheVariants as values
 use Rattle.ostore_graph_model.specs.declared.values.Reply.{Reply}
 use Rattle.ostore_graph_model.specs.declared.values.Reply.TheVariants as replies
-use Rattle.ostore_graph_model.specs.declared.values.Refusal.{Refusal}
-use Rattle.ostore_graph_model.specs.declared.values.Refusal.TheVariants.{NoVariable, NoMember, WrongKind, WrongType, Dangling, ReadOnly, SerialsSpent}
+use Rattle.ostore_graph_model.specs.declared.refusal.Refusal.{Refusal}
+use Rattle.ostore_graph_model.specs.declared.refusal.Refusal.TheVariants.{NoVariable, NoMember, WrongKind, WrongType, Dangling, ReadOnly, SerialsSpent}
 use Rattle.ostore_graph_model.specs.declared.commands.Command.{Command}
 use Rattle.ostore_graph_model.specs.declared.commands.Command.TheVariants.{New, Get, Set}
 use Rattle.ostore_graph_model.specs.declared.commands.Operand.TheVariants as operands

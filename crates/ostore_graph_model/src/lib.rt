@@ -5,9 +5,11 @@
 mod commands;
 mod history;
 mod laws;
+mod refusal;
 mod values;
 
 pub use commands::{Command, Commands, Idents, Key, Op, Operand, Script, Txn, TxnLists, Txns};
 pub use history::{Committed, Entry};
 pub use laws::names_are_ordered;
-pub use values::{Listed, Name, Names, Refusal, Replies, Reply, Value};
+pub use refusal::Refusal;
+pub use values::{Listed, Name, Names, Replies, Reply, Value};

@@ -8,9 +8,9 @@ use Rattle.ostore_graph_model.specs.declared.commands.Command.TheVariants.{New, 
 use Rattle.ostore_graph_model.specs.declared.commands.Operand.TheVariants as operands
 use Rattle.ostore_graph_model.specs.declared.commands.Txn.{Txn}
 use Rattle.ostore_job_text.specs.Spelling.{variable, place, command_words, txn_lines, IsBuiltCommand, IsBuiltTxn}
-use Rattle.ostore_job_text.specs.WordReading.{variable_at, place_at, segment_at}
+use Rattle.ostore_job_text.specs.inside.CommandWords.{variable_at, place_at, segment_at}
 use Rattle.ostore_text_words.specs.Words.{◌>>=◌, is_identifier, int_at}
-use Rattle.ostore_job_text.specs.Reading.{checked, new_at, get_at, set_at, command_at, is_only, update_of, txns_at}
+use Rattle.ostore_job_text.specs.inside.JobAt.{checked, new_at, get_at, set_at, command_at, is_only, update_of, txns_at}
 use Rattle.ostore_text_words.proofs.WordLaws.{bind_some, int_taken, int_again}
 use Rattle.ostore_job_text.proofs.WordLaws.{variable_taken, variable_again, place_taken, place_again, segment_taken, segment_again}
 use Rattle.ostore_job_text.proofs.GrammarSteps.{checked_some, chosen, cons_is, bytes_are, only_taken}

@@ -7,13 +7,13 @@ use Rattle.std.proofs.lemmas.List.{take_all}
 use Rattle.std.proofs.lemmas.Option.{same_Some, none-some}
 use Rattle.ostore_text_words.specs.declared.lines.Word.{Word}
 use Rattle.ostore_text_words.specs.declared.lines.Line.{Line}
-use Rattle.ostore_text_words.specs.Lines.{bare_lines, word_lines}
-use Rattle.ostore_text_words.specs.Reading.{IsUtf8Fault, seen_word, seen_lines as placed_lines}
+use Rattle.ostore_text_words.specs.Lines.{IsUtf8Fault, bare_lines, word_lines}
+use Rattle.ostore_text_words.specs.Seen.{seen_word, seen_lines as placed_lines}
 use Rattle.ostore_job_text.specs.declared.job.Job.{Job}
 use Rattle.ostore_job_text.specs.declared.reading.fault.ReadFault.{ReadFault}
 use Rattle.ostore_job_text.specs.declared.reading.fault.ReadFault.TheVariants as faults
 use Rattle.ostore_job_text.specs.Spelling.{SaysJob}
-use Rattle.ostore_job_text.specs.Reading.{Gives, seen_words, seen_lines, job_at}
+use Rattle.ostore_job_text.specs.inside.JobAt.{Gives, seen_words, seen_lines, job_at}
 use Rattle.ostore_job_text.proofs.GrammarSteps.{cons_is}
 use Rattle.ostore_job_text.proofs.GrammarJobs.{job_taken, job_again}
 

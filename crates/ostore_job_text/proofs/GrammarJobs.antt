@@ -7,10 +7,10 @@ use Rattle.std.proofs.lemmas.Option.{same_Some}
 use Rattle.ostore_job_text.specs.declared.job.Job.{Job}
 use Rattle.ostore_job_text.specs.declared.job.JobClient.{JobClient}
 use Rattle.ostore_job_text.specs.declared.job.JobTurn.{JobTurn}
-use Rattle.ostore_job_text.specs.declared.job.TheConstants.{DEFAULT_CACHE, DEFAULT_FRAMES}
+use Rattle.ostore_job_text.specs.Limits.{default_cache, default_frames}
 use Rattle.ostore_job_text.specs.Spelling.{client_lines, job_lines, IsBuiltClient, AreBuiltClients}
 use Rattle.ostore_text_words.specs.Words.{◌>>=◌, is_identifier}
-use Rattle.ostore_job_text.specs.Reading.{named_at, txns_at, client_of, client_at, job_at}
+use Rattle.ostore_job_text.specs.inside.JobAt.{named_at, txns_at, client_of, client_at, job_at}
 use Rattle.ostore_text_words.proofs.WordLaws.{bind_some}
 use Rattle.ostore_job_text.proofs.GrammarSteps.{checked_some, both_true, cons_is, bytes_are, bytes_same}
 use Rattle.ostore_job_text.proofs.GrammarCommands.{txns_taken, txns_again}
@@ -58,8 +58,8 @@ job_taken (line ∷ lines) job e =
 
 is_plain : (client : JobClient) → IsBuiltClient client → client_of client.name client.txns ≡ client
 is_plain client built =
-    let first : ℕ → JobClient = λ (n : ℕ). record { name = client.name; tries = n; cache = DEFAULT_CACHE; frames = DEFAULT_FRAMES; txns = client.txns } in
-    let second : ℕ → JobClient = λ (n : ℕ). record { name = client.name; tries = client.tries; cache = n; frames = DEFAULT_FRAMES; txns = client.txns } in
+    let first : ℕ → JobClient = λ (n : ℕ). record { name = client.name; tries = n; cache = default_cache; frames = default_frames; txns = client.txns } in
+    let second : ℕ → JobClient = λ (n : ℕ). record { name = client.name; tries = client.tries; cache = n; frames = default_frames; txns = client.txns } in
     let third : ℕ → JobClient = λ (n : ℕ). record { name = client.name; tries = client.tries; cache = client.cache; frames = n; txns = client.txns } in
     ap first (sym built.tries) ∙ ap second (sym built.cache) ∙ ap third (sym built.frames)
 

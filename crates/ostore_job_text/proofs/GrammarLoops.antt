@@ -9,7 +9,7 @@ use Rattle.ostore_graph_model.specs.declared.commands.Command.{Command}
 use Rattle.ostore_graph_model.specs.declared.commands.Txn.{Txn}
 use Rattle.ostore_job_text.specs.declared.reading.fault.ReadFault.{ReadFault}
 use Rattle.ostore_job_text.specs.declared.reading.fault.ReadFault.TheVariants as faults
-use Rattle.ostore_job_text.specs.Reading.{Fails, GivesCommands, GivesTxn, checked, seen_words, seen_lines, command_at, is_only, update_of, after_commands, before_txns, txns_at}
+use Rattle.ostore_job_text.specs.inside.JobAt.{Fails, GivesCommands, GivesTxn, checked, seen_words, seen_lines, command_at, is_only, update_of, after_commands, before_txns, txns_at}
 
 -- ---- a line at a time
 

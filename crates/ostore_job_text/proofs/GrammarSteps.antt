@@ -2,7 +2,7 @@
 use Rattle.std.proofs.Common.{◌≡◌, ℕ, Bool, true, false, cond, ◌&&◌, ◌⊎◌, List, [], ◌∷◌, Option, Some, refl, ap, ◌∙◌, inl, inr}
 use Rattle.std.specs.Str.{bytes_eq}
 use Rattle.std.proofs.lemmas.Slice.Eq.{bytes_eq-Decides}
-use Rattle.ostore_job_text.specs.Reading.{checked, is_only}
+use Rattle.ostore_job_text.specs.inside.JobAt.{checked, is_only}
 
 -- a test that held
 pub checked_some : {A : Type 0} (test : Bool) (o : Option A) (y : A) → checked test o ≡ Some y → (test ≡ true) × (o ≡ Some y)

@@ -5,7 +5,7 @@ use Rattle.ostore_text_words.specs.Words.{after_byte, identifier_at, dotted_at}
 use Rattle.ostore_text_words.specs.Words.{is_identifier}
 use Rattle.ostore_text_words.proofs.WordLaws.{bind_some, identifier_taken, identifier_again, after_byte_taken, dotted_taken, dotted_again, count_taken, count_again}
 use Rattle.ostore_job_text.specs.Spelling.{variable, place}
-use Rattle.ostore_job_text.specs.WordReading.{variable_at, place_at, segment_at}
+use Rattle.ostore_job_text.specs.inside.CommandWords.{variable_at, place_at, segment_at}
 
 pub variable_taken : (word name : List ℕ) → variable_at word ≡ Some name → (word ≡ variable name) × IsTrue (is_identifier name)
 unfolding variable_at

@@ -1,6 +1,8 @@
-pub mod WordReading
+-- What the contracts of public calls rest on.
+pub mod Limits
 pub mod Spelling
-pub mod Reading
 pub mod Results
 pub mod Report
-pub mod Refusals
+pub mod FaultLine
+-- What only ties private code.
+pub mod inside

@@ -9,10 +9,10 @@ use Rattle.ostore_graph_model.specs.declared.values.Name.{Name}
 use Rattle.ostore_graph_model.specs.declared.values.Listed.{Listed}
 use Rattle.ostore_graph_model.specs.declared.values.Value.{Value}
 use Rattle.ostore_graph_model.specs.declared.values.Value.TheVariants as values
-use Rattle.ostore_graph_model.specs.declared.values.Refusal.{Refusal}
-use Rattle.ostore_graph_model.specs.declared.values.Refusal.TheVariants as refusals
+use Rattle.ostore_graph_model.specs.declared.refusal.Refusal.{Refusal}
 use Rattle.ostore_graph_model.specs.declared.values.Reply.{Reply}
 use Rattle.ostore_graph_model.specs.declared.values.Reply.TheVariants as replies
+use Rattle.ostore_graph_model.specs.Refusals.{refusal_number, refusal_name}
 use Rattle.ostore_job_text.specs.declared.job.Job.{Job}
 use Rattle.ostore_job_text.specs.declared.job.JobClient.{JobClient}
 use Rattle.ostore_job_text.specs.declared.results.Cause.{Cause}
@@ -42,48 +42,6 @@ value_text (values.Text text) = quoted text
 value_text (values.Object name) = name_text name
 value_text (values.Dead name) = codes "!" ++ name_text name
 value_text values.Null = codes "null"
-
-abbrev pub refusal_number : Refusal → ℕ
-refusal_number refusals.NoVariable = 1
-refusal_number refusals.NoMember = 2
-refusal_number refusals.WrongKind = 3
-refusal_number refusals.WrongType = 4
-refusal_number refusals.Dangling = 5
-refusal_number refusals.Null = 6
-refusal_number refusals.NoRoot = 7
-refusal_number refusals.TextTooLong = 8
-refusal_number refusals.NoKey = 9
-refusal_number refusals.OutOfRange = 10
-refusal_number refusals.NotMember = 11
-refusal_number refusals.AlreadyMember = 12
-refusal_number refusals.NotIndexable = 13
-refusal_number refusals.IndexThere = 14
-refusal_number refusals.NoIndex = 15
-refusal_number refusals.ReadOnly = 16
-refusal_number refusals.NoObject = 17
-refusal_number refusals.SerialsSpent = 18
-refusal_number refusals.RootsFull = 19
-
-abbrev pub refusal_name : Refusal → List ℕ
-refusal_name refusals.NoVariable = codes "NoVariable"
-refusal_name refusals.NoMember = codes "NoMember"
-refusal_name refusals.WrongKind = codes "WrongKind"
-refusal_name refusals.WrongType = codes "WrongType"
-refusal_name refusals.Dangling = codes "Dangling"
-refusal_name refusals.Null = codes "Null"
-refusal_name refusals.NoRoot = codes "NoRoot"
-refusal_name refusals.TextTooLong = codes "TextTooLong"
-refusal_name refusals.NoKey = codes "NoKey"
-refusal_name refusals.OutOfRange = codes "OutOfRange"
-refusal_name refusals.NotMember = codes "NotMember"
-refusal_name refusals.AlreadyMember = codes "AlreadyMember"
-refusal_name refusals.NotIndexable = codes "NotIndexable"
-refusal_name refusals.IndexThere = codes "IndexThere"
-refusal_name refusals.NoIndex = codes "NoIndex"
-refusal_name refusals.ReadOnly = codes "ReadOnly"
-refusal_name refusals.NoObject = codes "NoObject"
-refusal_name refusals.SerialsSpent = codes "SerialsSpent"
-refusal_name refusals.RootsFull = codes "RootsFull"
 
 -- `refused NUMBER NAME`
 abbrev pub refusal_text : Refusal → List ℕ

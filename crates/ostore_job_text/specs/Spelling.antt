@@ -21,9 +21,8 @@ use Rattle.ostore_graph_model.specs.declared.commands.Operand.TheVariants as ope
 use Rattle.ostore_graph_model.specs.declared.commands.Txn.{Txn}
 use Rattle.ostore_job_text.specs.declared.job.Job.{Job}
 use Rattle.ostore_job_text.specs.declared.job.JobClient.{JobClient}
-use Rattle.ostore_job_text.specs.declared.job.TheConstants.{DEFAULT_TRIES, DEFAULT_CACHE, DEFAULT_FRAMES}
 use Rattle.ostore_job_text.specs.declared.input.TryInput.{TryInput}
-use Rattle.ostore_job_text.specs.declared.reading.input.TheConstants.{LONGEST_TEXT}
+use Rattle.ostore_job_text.specs.Limits.{longest_text, default_tries, default_cache, default_frames}
 
 -- ---- the schemas that are built
 
@@ -78,9 +77,9 @@ pub record IsBuiltTxn (txn : Txn) : Type 0 where
 -- the client has no option
 pub record IsBuiltClient (client : JobClient) : Type 0 where
   pub name : IsTrue (is_identifier client.name)
-  pub tries : client.tries ≡ DEFAULT_TRIES
-  pub cache : client.cache ≡ DEFAULT_CACHE
-  pub frames : client.frames ≡ DEFAULT_FRAMES
+  pub tries : client.tries ≡ default_tries
+  pub cache : client.cache ≡ default_cache
+  pub frames : client.frames ≡ default_frames
   pub txns : AllByRecursion IsBuiltTxn client.txns
 
 -- there is at most one client
@@ -90,10 +89,6 @@ AreBuiltClients (only ∷ []) = IsBuiltClient only
 AreBuiltClients (first ∷ second ∷ others) = ⊥
 
 -- ---- the whole text
-
--- the longest text that is read, in bytes
-abbrev pub longest_text : ℕ
-longest_text = LONGEST_TEXT
 
 -- the part before the first line `job`, and the part behind that line; without one, all and nothing
 abbrev pub parts_at : Option (ℕ × ℕ) → List ℕ → List ℕ × List ℕ
@@ -131,3 +126,7 @@ fault_parsed (Err fault) = Some fault
 -- the fault of the schema's part, which is judged where the whole text is short enough
 abbrev pub schema_fault : List ℕ → Option SchemaFault
 schema_fault text = if nat_le (length text) longest_text then fault_parsed (parsed (schema_part text)) else None
+
+-- the text spells no input that is built, and this is the fault of its schema's part
+abbrev pub IsRefusedFor : List ℕ → Option SchemaFault → Type 0
+IsRefusedFor text fault = IsRefused text × (schema_fault text ≡ fault)

@@ -3,19 +3,19 @@
 ghost use Rattle.std.specs.Prelude.{◌≡◌, ◌++◌, IfOk, OnOk};
 ghost use Rattle.ostore_job_text.specs.Report.{result_text, client_text, told_line, tail_text, clients_text, report};
 
+mod fault;
 mod outcomes;
 mod pieces;
-mod refusal;
 mod replies;
 #[cfg(test)]
 mod tests;
 
 use crate::job::{Job, JobClient};
 use crate::results::{ClientResults, Results, Tail, TxnResult};
+pub use fault::print_schema_fault;
 use ostore_base::{OutOfMemory, Text};
 use outcomes::{push_outcome, push_replies_told};
 use pieces::push_number;
-pub use refusal::print_schema_fault;
 use std::alloc::Global;
 
 /// The report of a run: what became of each transaction, client by client, and the last lines. The

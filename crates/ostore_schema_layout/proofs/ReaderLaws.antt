@@ -4,7 +4,7 @@ use Rattle.std.proofs.lemmas.List.{append-nil, drop_more, take_all, drop-drop, l
 use Rattle.std.proofs.Math.ListN.{drop_of_length-le}
 use Rattle.ostore_text_words.specs.declared.lines.Line.{Line}
 use Rattle.ostore_text_words.specs.Lines.{PlacedLine}
-use Rattle.ostore_text_words.specs.Reading.{seen_line, seen_lines}
+use Rattle.ostore_text_words.specs.Seen.{seen_line, seen_lines}
 use Rattle.ostore_schema_layout.specs.declared.declarations.NameAt.{NameAt}
 use Rattle.ostore_schema_layout.specs.declared.declarations.TypeDeclaration.{TypeDeclaration}
 use Rattle.ostore_schema_layout.specs.declared.declarations.MemberDeclaration.{MemberDeclaration}

@@ -4,7 +4,7 @@ use Rattle.std.specs.Prelude.{◌≡◌, ℕ, ◌<◌, ◌≤◌, List, ◌∷�
 use Rattle.std.specs.List.{AllByRecursion}
 use Rattle.ostore_text_words.specs.declared.lines.Line.{Line}
 use Rattle.ostore_text_words.specs.Lines.{PlacedWord}
-use Rattle.ostore_text_words.specs.Reading.{seen_lines}
+use Rattle.ostore_text_words.specs.Seen.{seen_lines}
 use Rattle.ostore_schema_layout.specs.declared.declarations.TypeDeclaration.{TypeDeclaration}
 use Rattle.ostore_schema_layout.specs.declared.declarations.MemberDeclaration.{MemberDeclaration}
 use Rattle.ostore_schema_layout.specs.declared.fault.SchemaFault.{SchemaFault}

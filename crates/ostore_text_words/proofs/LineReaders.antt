@@ -1,10 +1,14 @@
 -- The lines of a text, met one after another.
-use Rattle.std.proofs.Common.{◌≡◌, ℕ, suc, ◌+◌, ◌<◌, ◌≤◌, Bool, true, false, eqb, cond, List, [], ◌∷◌, ◌++◌, length, get_or, drop, filter, Some, None, refl, sym, ap, ◌∙◌, arith}
-use Rattle.std.specs.List.{slice_split, onto_first}
-use Rattle.std.proofs.lemmas.Bool.{cond-true, cond-false}
-use Rattle.std.proofs.lemmas.List.{append-nil, append_assoc, drop_more, drop_all}
-use Rattle.ostore_text_words.specs.Lines.{PlacedWord, PlacedLine, words_behind, line_words, line_of, lines_from, has_words, lines_of, is_only, parting_from}
-use Rattle.ostore_text_words.proofs.WordPlaces.{only_anywhere}
+use Rattle.std.proofs.Common.{◌≡◌, ℕ, suc, ◌+◌, ◌-◌, ◌<◌, ◌≤◌, Bool, true, false, not, eqb, leb, cond, List, [], ◌∷◌, ◌++◌, length, map, take, drop, filter, Some, None, refl, sym, ap, subst, ◌∙◌, arith, inl, inr}
+use Rattle.std.specs.List.{slice_split, onto_first, position_or_len, find, All, AllByRecursion}
+use Rattle.std.proofs.lemmas.Bool.{cases_lt, cond-true, cond-false, le-leb, lt-leb}
+use Rattle.std.proofs.lemmas.List.{append-nil, append_assoc, drop-drop, take_all, length-drop, length-take-le}
+use Rattle.std.proofs.lemmas.List.Splits.{slice_split_first, slice_split_none}
+use Rattle.std.proofs.lemmas.List.Elements.{All-from_get_or}
+use Rattle.std.proofs.lemmas.List.Sums.{fails_before_first, prefix_len-le-length}
+use Rattle.std.proofs.lemmas.Option.{none-some, same_Some}
+use Rattle.ostore_text_words.specs.Lines.{PlacedBytes, PlacedWord, PlacedLine, line_words, line_of, lines_from, has_words, lines_of, bytes_from, line_bytes}
+use Rattle.ostore_text_words.specs.inside.LineWalk.{lines_on}
 
 -- how many bytes lines have, with a byte behind each
 abbrev pub span : List (List ℕ) → ℕ
@@ -25,49 +29,111 @@ pub span_split : (test : ℕ → Bool) (text : List ℕ) → span (slice_split t
 span_split test [] = omega arith
 span_split test (byte ∷ others) = split_step (test byte) byte (length others) (slice_split test others) (span_split test others)
 
-pub next_line : (parts : List (List ℕ)) (k : ℕ) (line : List ℕ) → k < length parts → line ≡ get_or parts k line → drop k parts ≡ line ∷ drop (k + 1) parts
-next_line parts k line lt is = drop_more parts k line lt ∙ ap (λ (l : List ℕ). l ∷ drop (k + 1) parts) (sym is)
+-- ---- the walk
 
-pub next_span : (parts : List (List ℕ)) (k at total : ℕ) (line : List ℕ) → drop k parts ≡ line ∷ drop (k + 1) parts → at + span (drop k parts) ≡ total → at + length line + 1 + span (drop (k + 1) parts) ≡ total
-next_span parts k at total line is h =
-    let here = ap span is in
-    omega arith
+abbrev ends_line : ℕ → Bool
+ends_line byte = eqb byte 10
 
--- ---- the lines that have words
+pub lines_on_all : (text : List ℕ) → lines_on 0 text ≡ line_bytes text
+unfolding lines_on line_bytes
+lines_on_all text = cond-true (leb 0 (length text)) (bytes_from 0 (slice_split ends_line text)) [] (le-leb 0 (length text) (omega arith))
 
-abbrev pub lines_left : ℕ → List (List ℕ) → List PlacedLine
-lines_left at parts = filter has_words (lines_from at parts)
+pub lines_on_none : (at : ℕ) (text : List ℕ) → length text < at → lines_on at text ≡ []
+unfolding lines_on
+lines_on_none at text h = cond-false (leb at (length text)) (bytes_from at (slice_split ends_line (drop at text))) [] (lt-leb at (length text) h)
+
+lines_on_some : (at : ℕ) (text : List ℕ) → at ≤ length text → lines_on at text ≡ bytes_from at (slice_split ends_line (drop at text))
+unfolding lines_on
+lines_on_some at text h = cond-true (leb at (length text)) (bytes_from at (slice_split ends_line (drop at text))) [] (le-leb at (length text) h)
+
+-- a newline ends the line
+next_here : (at n : ℕ) (text rest line : List ℕ) → rest ≡ drop at text → n ≡ position_or_len ends_line rest → n < length rest → line ≡ take n rest → length line ≡ n → at + n + 1 ≤ length text → bytes_from at (slice_split ends_line rest) ≡ record { at = at; bytes = line } ∷ lines_on (at + n + 1) text
+next_here at n text rest line is first more bytes count le =
+    let split = slice_split_first ends_line rest 0 (subst (λ (m : ℕ). m < length rest) first more) in
+    let whole : take (position_or_len ends_line rest) rest ≡ line = ap (λ (m : ℕ). take m rest) (sym first) ∙ sym bytes in
+    let sums : at + (n + 1) ≡ at + n + 1 = omega arith in
+    let after : drop (position_or_len ends_line rest + 1) rest ≡ drop (at + n + 1) text =
+    ap (λ (m : ℕ). drop (m + 1) rest) (sym first) ∙ ap (drop (n + 1)) is ∙ drop-drop (n + 1) at text ∙ ap (λ (m : ℕ). drop m text) sums in
+    let later = lines_on_some (at + n + 1) text le in
+    ap (bytes_from at) split
+    ∙ ap (λ (b : List ℕ). record { at = at; bytes = b } ∷ bytes_from (at + length b + 1) (slice_split ends_line (drop (position_or_len ends_line rest + 1) rest))) whole
+    ∙ ap (λ (m : ℕ). record { at = at; bytes = line } ∷ bytes_from (at + m + 1) (slice_split ends_line (drop (position_or_len ends_line rest + 1) rest))) count
+    ∙ ap (λ (bs : List ℕ). record { at = at; bytes = line } ∷ bytes_from (at + n + 1) (slice_split ends_line bs)) after
+    ∙ ap (λ (ls : List PlacedBytes). record { at = at; bytes = line } ∷ ls) (sym later)
+
+-- the text ends the line
+next_last : (at n : ℕ) (text rest line : List ℕ) → n ≡ position_or_len ends_line rest → length rest ≤ n → line ≡ take n rest → length text < at + n + 1 → bytes_from at (slice_split ends_line rest) ≡ record { at = at; bytes = line } ∷ lines_on (at + n + 1) text
+next_last at n text rest line first last bytes end =
+    let none : All (λ (byte : ℕ). ends_line byte ≡ false) rest = All-from_get_or (λ (byte : ℕ). ends_line byte ≡ false) rest 0 (λ k lt. fails_before_first ends_line rest k 0 (omega arith)) in
+    ap (bytes_from at) (slice_split_none ends_line rest none)
+    ∙ ap (λ (b : List ℕ). record { at = at; bytes = b } ∷ []) (sym (take_all n rest last) ∙ sym bytes)
+    ∙ ap (λ (ls : List PlacedBytes). record { at = at; bytes = line } ∷ ls) (sym (lines_on_none (at + n + 1) text end))
+
+-- the first of the lines that are left
+pub lines_on_next : (at n : ℕ) (text rest line : List ℕ) → at ≤ length text → rest ≡ drop at text → n ≡ position_or_len ends_line rest → line ≡ take n rest → lines_on at text ≡ record { at = at; bytes = line } ∷ lines_on (at + n + 1) text
+lines_on_next at n text rest line le is first bytes =
+    let most = prefix_len-le-length (λ byte. not (ends_line byte)) rest in
+    let count : length line ≡ n = ap length bytes ∙ length-take-le n rest (omega arith) in
+    let size : length rest ≡ length text - at = ap length is ∙ length-drop at text in
+    let here = lines_on_some at text le ∙ ap (λ (bs : List ℕ). bytes_from at (slice_split ends_line bs)) (sym is) in
+    elim (cases_lt n (length rest)) [
+      | inl more ↦ here ∙ next_here at n text rest line is first more bytes count (omega arith)
+      | inr last ↦ here ∙ next_last at n text rest line first last bytes (omega arith)
+    ]
+
+-- ---- the lines that have words, met one after another
+
+abbrev pub line_at : PlacedBytes → PlacedLine
+line_at line = line_of line.at line.bytes
+
+abbrev pub worded : List PlacedBytes → List PlacedLine
+worded lines = filter has_words (map line_at lines)
+
+seen_from : (at : ℕ) (parts : List (List ℕ)) → map line_at (bytes_from at parts) ≡ lines_from at parts
+seen_from at [] = refl
+seen_from at (line ∷ others) = ap (λ (ls : List PlacedLine). line_of at line ∷ ls) (seen_from (at + length line + 1) others)
+
+pub worded_all : (text : List ℕ) → worded (line_bytes text) ≡ lines_of text
+unfolding lines_of line_bytes
+worded_all text = ap (filter has_words) (seen_from 0 (slice_split ends_line text))
 
 filter_first : (keep : Bool) (line : PlacedLine) (rest : List PlacedLine) → cond keep (line ∷ []) [] ++ rest ≡ cond keep (line ∷ rest) rest
 filter_first true line rest = refl
 filter_first false line rest = refl
 
 -- one line more
-pub line_met : (found : List PlacedLine) (whole : List PlacedLine) (at end : ℕ) (line : List ℕ) (parts rest : List (List ℕ)) (words : List PlacedWord) → parts ≡ line ∷ rest → words ≡ line_words at line → end ≡ at + length line → found ++ lines_left at parts ≡ whole → (found ++ filter has_words (record { words = words; end = end } ∷ [])) ++ lines_left (end + 1) rest ≡ whole
-line_met found whole at end line parts rest words is same ends h =
-    rw (same, ends) (append_assoc found (filter has_words (line_of at line ∷ [])) (lines_left (at + length line + 1) rest)
-    ∙ ap (λ (ls : List PlacedLine). found ++ ls) (filter_first (has_words (line_of at line)) (line_of at line) (lines_left (at + length line + 1) rest) ∙ sym (ap (lines_left at) is)) ∙ h)
+pub line_met : (found whole : List PlacedLine) (lines rest : List PlacedBytes) (line : PlacedBytes) (words : List PlacedWord) (end : ℕ) → lines ≡ line ∷ rest → words ≡ line_words line.at line.bytes → end ≡ line.at + length line.bytes → found ++ worded lines ≡ whole → (found ++ filter has_words (record { words = words; end = end } ∷ [])) ++ worded rest ≡ whole
+line_met found whole lines rest line words end next same ends h =
+    rw (same, ends) (append_assoc found (filter has_words (line_at line ∷ [])) (worded rest)
+    ∙ ap (λ (ls : List PlacedLine). found ++ ls) (filter_first (has_words (line_at line)) (line_at line) (worded rest) ∙ sym (ap worded next)) ∙ h)
 
-pub lines_end : (found : List PlacedLine) (whole : List PlacedLine) (at : ℕ) (parts : List (List ℕ)) (k : ℕ) → length parts ≤ k → found ++ lines_left at (drop k parts) ≡ whole → found ≡ whole
-lines_end found whole at parts k le h =
-    sym (append-nil found) ∙ ap (λ (ls : List PlacedLine). found ++ ls) (sym (ap (lines_left at) (drop_all k parts le))) ∙ h
+pub lines_end : (found whole : List PlacedLine) (lines : List PlacedBytes) → lines ≡ [] → found ++ worded lines ≡ whole → found ≡ whole
+lines_end found whole lines none h =
+    sym (append-nil found) ∙ ap (λ (ls : List PlacedLine). found ++ ls) (sym (ap worded none)) ∙ h
 
-pub lines_begin : (text : List ℕ) → lines_left 0 (slice_split (λ b. eqb b 10) text) ≡ lines_of text
-unfolding lines_of
-lines_begin text = refl
+-- ---- lines that lie in a text of so many bytes
 
--- ---- the line that parts
+abbrev pub AreWithin : ℕ → List PlacedBytes → Type 0
+AreWithin most lines = AllByRecursion (λ (line : PlacedBytes). line.at + length line.bytes ≤ most) lines
 
-pub part_here : (word line : List ℕ) (at : ℕ) (parts rest : List (List ℕ)) → parts ≡ line ∷ rest → true ≡ is_only word (words_behind 0 0 line) → Some (at, at + length line + 1) ≡ parting_from word at parts
-unfolding parting_from
-part_here word line at parts rest is h =
-    rw is (sym (cond-true (is_only word (words_behind 0 at line)) (Some (at, at + length line + 1)) (parting_from word (at + length line + 1) rest) (only_anywhere word line at ∙ sym h)))
+within_from : (at most : ℕ) (parts : List (List ℕ)) → at + span parts ≤ most + 1 → AreWithin most (bytes_from at parts)
+within_from at most [] fits = tt
+within_from at most (line ∷ others) fits = (omega arith, within_from (at + length line + 1) most others (omega arith))
 
-pub part_later : (word line : List ℕ) (at : ℕ) (parts rest : List (List ℕ)) → parts ≡ line ∷ rest → false ≡ is_only word (words_behind 0 0 line) → parting_from word (at + length line + 1) rest ≡ parting_from word at parts
-unfolding parting_from
-part_later word line at parts rest is h =
-    rw is (sym (cond-false (is_only word (words_behind 0 at line)) (Some (at, at + length line + 1)) (parting_from word (at + length line + 1) rest) (only_anywhere word line at ∙ sym h)))
+pub lines_within : (text : List ℕ) → AreWithin (length text) (line_bytes text)
+unfolding line_bytes
+lines_within text = within_from 0 (length text) (slice_split ends_line text) (omega (arith, span_split ends_line text))
 
-pub part_end : (word : List ℕ) (at : ℕ) (parts : List (List ℕ)) (k : ℕ) → length parts ≤ k → None ≡ parting_from word at (drop k parts)
-unfolding parting_from
-part_end word at parts k le = sym (ap (parting_from word at) (drop_all k parts le))
+pub next_within : (most : ℕ) (lines rest : List PlacedBytes) (line : PlacedBytes) → lines ≡ line ∷ rest → AreWithin most lines → (line.at + length line.bytes ≤ most) × AreWithin most rest
+next_within most lines rest line next h = subst (AreWithin most) next h
+
+found_in : (hit : Bool) (test : PlacedBytes → Bool) (most : ℕ) (line first : PlacedBytes) (others : List PlacedBytes) → AreWithin most (first ∷ others) → Some line ≡ cond hit (Some first) (find test others) → (Some line ≡ find test others → line.at + length line.bytes ≤ most) → line.at + length line.bytes ≤ most
+found_in true test most line first others h e later =
+    let same : line ≡ first = same_Some line first e in
+    rw same h.0
+found_in false test most line first others h e later = later e
+
+-- and so does the first of them that passes a test
+pub found_within : (test : PlacedBytes → Bool) (most : ℕ) (line : PlacedBytes) (lines : List PlacedBytes) → AreWithin most lines → Some line ≡ find test lines → line.at + length line.bytes ≤ most
+found_within test most line [] h e = absurd (none-some line (sym e))
+found_within test most line (first ∷ others) h e = found_in (test first) test most line first others h e (λ k. found_within test most line others h.1 k)

@@ -284,10 +284,6 @@ only_is word line at =
           rw (blank_words at line le, empty) refl
     ]
 
--- it is, wherever the line stands
-pub only_anywhere : (word line : List ℕ) (at : ℕ) → is_only word (words_behind 0 at line) ≡ is_only word (words_behind 0 0 line)
-only_anywhere word line at = sym (only_is word line at) ∙ only_is word line 0
-
 only_parts : (word line start found rest : List ℕ) → start ≡ front line → found ≡ take (word_length start) start → rest ≡ drop (word_length start) start → (ltb 0 (length found) && (bytes_eq found word && eqb (length (front rest)) 0)) ≡ is_only word (words_behind 0 0 line)
 only_parts word line start found rest s f r =
     let at_front : found ≡ take (word_length (front line)) (front line) = f ∙ ap (λ (bs : List ℕ). take (word_length bs) bs) s in

@@ -1,3 +1,6 @@
+-- What the contracts of public calls rest on.
 pub mod Words
 pub mod Lines
-pub mod Reading
+pub mod Seen
+-- What only ties private code.
+pub mod inside

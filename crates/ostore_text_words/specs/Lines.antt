@@ -4,8 +4,9 @@
 --   A line without words is passed over, and so is a comment, whose first word begins with `#`.
 --   A control byte is one below 32. A word that holds one can't stand, and its place is that byte.
 use Rattle.std.specs.Prelude.{ℕ, ◌+◌, ◌-◌, zero, suc, Bool, false, ◌&&◌, not, ◌==◌, nat_lt, nat_le, if◌then◌else◌, List, [], ◌∷◌, ◌++◌, length, map, filter, flat_map, take, codes, Option, Some, None}
-use Rattle.std.specs.List.{slice_split, list_all, position_or_len}
-use Rattle.std.specs.Str.{bytes_eq, is_utf8}
+use Rattle.std.specs.List.{slice_split, list_all, position_or_len, find}
+use Rattle.std.specs.Option.{option_map}
+use Rattle.std.specs.Str.{bytes_eq, is_utf8, IsUtf8, IsValidUpTo}
 use Rattle.std.specs.Str.Lossy.{utf8_valid_len}
 
 -- a word, and where it stands
@@ -21,6 +22,11 @@ pub record PlacedLine : Type 0 where
 -- where a text stops being UTF-8, if it does: behind its longest front that is
 abbrev pub utf8_fault : List ℕ → Option ℕ
 utf8_fault text = if is_utf8 text then None else Some (utf8_valid_len text)
+
+-- the same, said of the bytes before and behind it
+abbrev pub IsUtf8Fault : List ℕ → Option ℕ → Type 0
+IsUtf8Fault text None = IsUtf8 text
+IsUtf8Fault text (Some at) = IsValidUpTo text at
 
 -- ---- words
 
@@ -125,12 +131,28 @@ is_only word [] = false
 is_only word (found ∷ []) = bytes_eq found.bytes word
 is_only word (first ∷ second ∷ others) = false
 
--- where the first line begins whose only word is this one, and where the line behind it begins
-unfoldable pub parting_from : List ℕ → ℕ → List (List ℕ) → Option (ℕ × ℕ)
-parting_from word at [] = None
-parting_from word at (line ∷ others) =
-    if is_only word (words_behind 0 at line) then Some (at, at + length line + 1)
-    else parting_from word (at + length line + 1) others
+-- a line as it stands, words or none: where it begins, and its bytes without byte 10
+pub record PlacedBytes : Type 0 where
+  pub at : ℕ
+  pub bytes : List ℕ
 
+-- the lines of a text that begins at a place, from the bytes of each
+abbrev pub bytes_from : ℕ → List (List ℕ) → List PlacedBytes
+bytes_from at [] = []
+bytes_from at (line ∷ others) = record { at = at; bytes = line } ∷ bytes_from (at + length line + 1) others
+
+-- all lines of a text
+unfoldable pub line_bytes : List ℕ → List PlacedBytes
+line_bytes text = bytes_from 0 (slice_split (λ byte. byte == 10) text)
+
+-- the line's only word is this one, wherever the line stands
+abbrev pub is_parting : List ℕ → PlacedBytes → Bool
+is_parting word line = is_only word (words_behind 0 0 line.bytes)
+
+-- where a line begins, and where the line behind it does
+abbrev pub around_line : PlacedBytes → ℕ × ℕ
+around_line line = (line.at, line.at + length line.bytes + 1)
+
+-- where the first line begins whose only word is this one, and where the line behind it begins
 abbrev pub parting_of : List ℕ → List ℕ → Option (ℕ × ℕ)
-parting_of word text = parting_from word 0 (slice_split (λ byte. byte == 10) text)
+parting_of word text = option_map around_line (find (is_parting word) (line_bytes text))

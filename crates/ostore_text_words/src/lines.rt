@@ -1,11 +1,15 @@
 //! The lines of a text, and their words.
 
+mod walk;
 mod words;
 
-ghost use Rattle.std.specs.Prelude.{◌≡◌, ◌+◌, ◌^◌, ◌<◌, [], ◌∷◌, ◌++◌, length, map, filter, IfOk, OnOk};
-ghost use Rattle.ostore_text_words.specs.Lines.{has_words, is_comment, line_words, lines_of, parting_of};
-ghost use Rattle.ostore_text_words.specs.Reading.{seen_word, seen_lines};
+ghost use Rattle.std.specs.Prelude.{◌≡◌, ◌+◌, ◌^◌, ◌<◌, ◌++◌, length, map, option_map, IfOk, OnOk};
+ghost use Rattle.std.specs.List.{find};
+ghost use Rattle.ostore_text_words.specs.Lines.{is_comment, is_parting, line_bytes, line_words, lines_of, parting_of};
+ghost use Rattle.ostore_text_words.specs.Seen.{seen_word, seen_lines};
+ghost use Rattle.ostore_text_words.specs.inside.LineWalk.{kept_line, seen_bytes};
 
+use self::walk::{LineBytes, LineWalk};
 use self::words::{is_only, is_plain, judged_at, words_of_line};
 use ostore_base::{ListOf, OutOfMemory};
 use std::alloc::Global;
@@ -64,7 +68,7 @@ fn push_line<'a>(
     end: usize,
 ) -> Result<(), OutOfMemory>
     ensures { OnOk result (seen_lines lines.new
-        ≡ seen_lines lines.old ++ filter has_words (record { words = map seen_word words.entry; end = end } ∷ [])) }
+        ≡ seen_lines lines.old ++ kept_line (map seen_word words.entry) end) }
 {
     if !words.items().is_empty() {
         lines.push(Line { words, end })?;
@@ -78,14 +82,18 @@ pub fn read_lines<'a>(alloc: Global, text: &'a [u8]) -> Result<ListOf<Line<'a>>,
     ensures { IfOk result (λ lines. seen_lines lines ≡ lines_of text.now) }
 {
     let mut lines = ListOf::new(alloc);
-    let mut at = 0;
-    for line in text.split(|byte| *byte == b'\n') {
-        let end = at + line.len();
-        let words = line_words(alloc, at, line)?;
-        push_line(&mut lines, words, end)?;
-        at = end + 1;
+    for line in LineWalk::new(text) {
+        let words = line_words(alloc, line.at, line.bytes)?;
+        push_line(&mut lines, words, line.at + line.bytes.len())?;
     }
     Ok(lines)
+}
+
+/// The first line whose only word is this one.
+fn parting_line<'a>(text: &'a [u8], word: &[u8]) -> Option<LineBytes<'a>>
+    ensures { option_map seen_bytes result ≡ find (is_parting word.now) (line_bytes text.now) }
+{
+    LineWalk::new(text).find(|line| is_only(word, line.bytes))
 }
 
 /// Where the first line begins whose only word is this one, and where the line behind it begins (the
@@ -93,13 +101,6 @@ pub fn read_lines<'a>(alloc: Global, text: &'a [u8]) -> Result<ListOf<Line<'a>>,
 pub fn find_parting(text: &[u8], word: &[u8]) -> Option<(usize, usize)>
     ensures { result ≡ parting_of word.now text.now }
 {
-    let mut at = 0;
-    for line in text.split(|byte| *byte == b'\n') {
-        let behind = at + line.len() + 1;
-        if is_only(word, line) {
-            return Some((at, behind));
-        }
-        at = behind;
-    }
-    None
+    let line = parting_line(text, word)?;
+    Some((line.at, line.at + line.bytes.len() + 1))
 }

@@ -1,6 +1,7 @@
 //! Texts with the words and places that they have, and words with what they spell.
 
 use super::*;
+use std::fmt::Write;
 use std::process::Abort;
 use std::test::Fail;
 
@@ -63,6 +64,43 @@ fn control_bytes(rt: HostRuntime) -> Result<(), Fail> {
     expect_line(&rt, lines, 1, &[(17, b"# a\x01b c")], 21);
     expect_line(&rt, lines, 2, &[(23, b"x\r")], 24);
     expect_line(&rt, lines, 3, &[(28, b"\"a \x1f b\"")], 32);
+    Ok(())
+}
+
+#[test]
+fn many_lines_and_many_words(rt: HostRuntime) -> Result<(), Fail> {
+    let mut text = String::new(rt.alloc());
+    for i in 0..2000u32 {
+        writeln!(text, "line {i} of many")?;
+    }
+    for _ in 0..1000u32 {
+        write!(text, "w ")?;
+    }
+    let lines = read_lines(rt.alloc(), text.as_bytes())?;
+    let lines = lines.items();
+    assert_eq!(rt; lines.len(), 2001);
+    let last: &[(usize, &[u8])] = &[
+        (34872, b"line"),
+        (34877, b"1999"),
+        (34882, b"of"),
+        (34885, b"many"),
+    ];
+    expect_line(&rt, lines, 1999, last, 34889);
+    let words = lines[2000].words.items();
+    assert_eq!(rt; words.len(), 1000);
+    assert_eq!(rt; words[999].at, 34890 + 2 * 999);
+    Ok(())
+}
+
+#[test]
+fn a_text_of_four_million_bytes(rt: HostRuntime) -> Result<(), Fail> {
+    let mut text = vec![in rt.alloc(); b' '; 4_194_300]?;
+    text.extend_from_slice(b"\njob")?;
+    assert_eq!(rt; find_parting(&text, b"job"), Some((4_194_301, 4_194_305)));
+    let lines = read_lines(rt.alloc(), &text)?;
+    assert_eq!(rt; lines.items().len(), 1);
+    expect_line(&rt, lines.items(), 0, &[(4_194_301, b"job")], 4_194_304);
+    assert_eq!(rt; utf8_fault(&text), None);
     Ok(())
 }
 

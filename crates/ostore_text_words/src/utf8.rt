@@ -1,8 +1,7 @@
 //! Whether a text is UTF-8.
 
 ghost use Rattle.std.specs.Prelude.{◌≡◌};
-ghost use Rattle.ostore_text_words.specs.Lines.{utf8_fault as utf8_fault_of};
-ghost use Rattle.ostore_text_words.specs.Reading.{IsUtf8Fault};
+ghost use Rattle.ostore_text_words.specs.Lines.{IsUtf8Fault, utf8_fault as utf8_fault_of};
 
 use std::str;
 

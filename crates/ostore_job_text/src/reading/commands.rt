@@ -1,7 +1,7 @@
 //! Commands, read from the words of a line.
 
 ghost use Rattle.std.specs.Prelude.{◌≡◌};
-ghost use Rattle.ostore_job_text.specs.Reading.{Gives, seen_words, new_at, get_at, set_at, command_at};
+ghost use Rattle.ostore_job_text.specs.inside.JobAt.{Gives, seen_words, new_at, get_at, set_at, command_at};
 
 use crate::reading::fault::ReadFault;
 use crate::reading::names::{read_place, read_variable};
@@ -12,7 +12,7 @@ use ostore_text_words::{Word, is_identifier, read_int};
 use std::alloc::Global;
 
 /// `new $to TYPE SEGMENT`.
-#[tactic(auto, unfolding(crate::specs::Reading::new_at))]
+#[tactic(auto, unfolding(crate::specs::inside::JobAt::new_at))]
 fn read_new(alloc: Global, to: &[u8], ty: &[u8], segment: &[u8]) -> Result<Command, ReadFault>
     ensures { Gives (λ command. command) result (new_at to.now ty.now segment.now) }
 {
@@ -29,7 +29,7 @@ fn read_new(alloc: Global, to: &[u8], ty: &[u8], segment: &[u8]) -> Result<Comma
 }
 
 /// `get $object.member`.
-#[tactic(auto, unfolding(crate::specs::Reading::get_at))]
+#[tactic(auto, unfolding(crate::specs::inside::JobAt::get_at))]
 fn read_get(alloc: Global, place: &[u8]) -> Result<Command, ReadFault>
     ensures { Gives (λ command. command) result (get_at place.now) }
 {
@@ -41,7 +41,7 @@ fn read_get(alloc: Global, place: &[u8]) -> Result<Command, ReadFault>
 }
 
 /// `set $object.member INT`.
-#[tactic(auto, unfolding(crate::specs::Reading::set_at))]
+#[tactic(auto, unfolding(crate::specs::inside::JobAt::set_at))]
 fn read_set(alloc: Global, place: &[u8], value: &[u8]) -> Result<Command, ReadFault>
     ensures { Gives (λ command. command) result (set_at place.now value.now) }
 {
@@ -55,7 +55,7 @@ fn read_set(alloc: Global, place: &[u8], value: &[u8]) -> Result<Command, ReadFa
 }
 
 /// The command that a line spells.
-#[tactic(auto, unfolding(crate::specs::Reading::command_at))]
+#[tactic(auto, unfolding(crate::specs::inside::JobAt::command_at))]
 pub(crate) fn read_command(alloc: Global, line: &[Word]) -> Result<Command, ReadFault>
     ensures { Gives (λ command. command) result (command_at (seen_words line.now)) }
 {

@@ -5,7 +5,6 @@ ghost use Rattle.ostore_job_text.specs.declared.reading.fault.ReadFault.TheVaria
 
 use ostore_base::OutOfMemory;
 use ostore_schema_layout::SchemaFault;
-use std::alloc::{AllocError, AllocFailed};
 use thiserror::Error;
 
 /// Why a text for `try` gave no input.
@@ -37,22 +36,6 @@ impl From<OutOfMemory> for ReadFault {
     ghost from_gives = { λ _ fault. fault ≡ Memory };
 
     fn from(_refused: OutOfMemory) -> ReadFault {
-        ReadFault::OutOfMemory
-    }
-}
-
-impl From<AllocError> for ReadFault {
-    ghost from_gives = { λ _ fault. fault ≡ Memory };
-
-    fn from(_refused: AllocError) -> ReadFault {
-        ReadFault::OutOfMemory
-    }
-}
-
-impl<T: Drop> From<AllocFailed<T>> for ReadFault {
-    ghost from_gives = { λ _ fault. fault ≡ Memory };
-
-    fn from(_refused: AllocFailed<T>) -> ReadFault {
         ReadFault::OutOfMemory
     }
 }

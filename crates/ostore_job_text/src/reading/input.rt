@@ -5,7 +5,7 @@ ghost use Rattle.std.specs.List.{AllByRecursion};
 ghost use Rattle.ostore_schema_layout.specs.declared.fault.SchemaFault.{SchemaFault};
 ghost use Rattle.ostore_job_text.specs.declared.job.Job.{Job};
 ghost use Rattle.ostore_job_text.specs.declared.input.TryInput.{TryInput};
-ghost use Rattle.ostore_job_text.specs.Spelling.{Says, SaysJob, IsRefused, AreBuiltTypes, IsIntMember, schema_part, job_part, schema_fault};
+ghost use Rattle.ostore_job_text.specs.Spelling.{Says, SaysJob, IsRefusedFor, AreBuiltTypes, IsIntMember, schema_part, job_part};
 
 use crate::input::TryInput;
 use crate::job::Job;
@@ -77,9 +77,10 @@ pub fn read_try_input(alloc: Global, text: &[u8]) -> Result<TryInput, TryFault>
     // The text says nothing else.
     ensures only { IfOk result (λ input. (other : TryInput) → Says text.now other → other ≡ input) }
     // What is refused says nothing, and its schema's part has no fault.
-    ensures refused { result ≡ Err TryFault.Refused → IsRefused text.now × (schema_fault text.now ≡ None) }
+    ensures refused { result ≡ Err TryFault.Refused → IsRefusedFor text.now None }
     // A schema's fault is that of the text, which says nothing.
-    ensures schema { (fault : SchemaFault) → result ≡ Err (TryFault.Schema fault) → IsRefused text.now × (schema_fault text.now ≡ Some fault) }
+    ensures schema { (fault : SchemaFault) →
+        result ≡ Err (TryFault.Schema fault) → IsRefusedFor text.now (Some fault) }
 {
     if text.len() > LONGEST_TEXT {
         return Err(TryFault::Refused);

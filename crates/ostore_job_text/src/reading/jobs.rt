@@ -1,7 +1,7 @@
 //! Jobs, read from their lines.
 
 ghost use Rattle.std.specs.Prelude.{◌≡◌, ◌<◌, [], false, length};
-ghost use Rattle.ostore_job_text.specs.Reading.{Gives, GivesCommands, GivesTxn, seen_words, seen_lines, txns_at, client_at, job_at};
+ghost use Rattle.ostore_job_text.specs.inside.JobAt.{Gives, GivesCommands, GivesTxn, seen_words, seen_lines, txns_at, client_at, job_at};
 
 use crate::job::{DEFAULT_CACHE, DEFAULT_FRAMES, DEFAULT_TRIES, Job, JobClient};
 use crate::reading::commands::read_command;
@@ -58,9 +58,10 @@ fn read_txns(alloc: Global, lines: &[Line]) -> Result<Txns, ReadFault>
 }
 
 /// The client that its line and its transactions' lines spell.
-#[tactic(auto, unfolding(crate::specs::Reading::client_at))]
+#[tactic(auto, unfolding(crate::specs::inside::JobAt::client_at))]
 fn read_client(alloc: Global, line: &[Word], lines: &[Line]) -> Result<JobClient, ReadFault>
-    ensures { Gives (λ client. client) result (client_at (seen_words line.now) (seen_lines lines.now)) }
+    ensures { let words = seen_words line.now in
+        Gives (λ client. client) result (client_at words (seen_lines lines.now)) }
 {
     let name = read_named(line, b"client")?;
     let txns = read_txns(alloc, lines)?;
@@ -74,7 +75,7 @@ fn read_client(alloc: Global, line: &[Word], lines: &[Line]) -> Result<JobClient
 }
 
 /// The job that the lines spell: one client, or none where there is no line.
-#[tactic(auto, unfolding(crate::specs::Reading::job_at))]
+#[tactic(auto, unfolding(crate::specs::inside::JobAt::job_at))]
 pub(crate) fn read_job(alloc: Global, lines: &[Line]) -> Result<Job, ReadFault>
     ensures { Gives (λ job. job) result (job_at (seen_lines lines.now)) }
 {

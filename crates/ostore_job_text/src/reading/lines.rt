@@ -1,7 +1,7 @@
 //! Lines of one or two words.
 
 ghost use Rattle.std.specs.Prelude.{◌≡◌};
-ghost use Rattle.ostore_job_text.specs.Reading.{Gives, seen_words, is_only, named_at};
+ghost use Rattle.ostore_job_text.specs.inside.JobAt.{Gives, seen_words, is_only, named_at};
 
 use crate::reading::fault::ReadFault;
 use ostore_text_words::{Word, is_identifier};

@@ -1,12 +1,12 @@
 //! Words of commands that hold names.
 
 ghost use Rattle.std.specs.Prelude.{◌≡◌, option_map};
-ghost use Rattle.ostore_job_text.specs.WordReading.{variable_at, place_at};
+ghost use Rattle.ostore_job_text.specs.inside.CommandWords.{variable_at, place_at};
 
 use ostore_text_words::{is_identifier, read_dotted};
 
 /// The name of `$name`.
-#[tactic(auto, unfolding(crate::specs::WordReading::variable_at))]
+#[tactic(auto, unfolding(crate::specs::inside::CommandWords::variable_at))]
 pub(crate) fn read_variable(word: &[u8]) -> Option<&[u8]>
     ensures { option_map (λ name. name.now) result ≡ variable_at word.now }
 {
@@ -17,7 +17,7 @@ pub(crate) fn read_variable(word: &[u8]) -> Option<&[u8]>
 }
 
 /// The object and the member of `$object.member`.
-#[tactic(auto, unfolding(crate::specs::WordReading::place_at))]
+#[tactic(auto, unfolding(crate::specs::inside::CommandWords::place_at))]
 pub(crate) fn read_place(word: &[u8]) -> Option<(&[u8], &[u8])>
     ensures { option_map (λ parts. (parts.0.now, parts.1.now)) result ≡ place_at word.now }
 {

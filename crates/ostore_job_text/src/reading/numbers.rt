@@ -1,7 +1,7 @@
 //! Numbers of commands.
 
 ghost use Rattle.std.specs.Prelude.{◌≡◌};
-ghost use Rattle.ostore_job_text.specs.WordReading.{segment_at};
+ghost use Rattle.ostore_job_text.specs.inside.CommandWords.{segment_at};
 
 use ostore_text_words::read_count;
 

@@ -2,7 +2,7 @@
 
 ghost use Rattle.std.specs.Prelude.{◌≡◌, ◌++◌, codes, OnOk};
 ghost use Rattle.std.specs.List.{flat_map};
-ghost use Rattle.ostore_job_text.specs.Report.{name_text, listed_text, names_text, value_text, refusal_number, refusal_name, refusal_text, reply_text, reply_line};
+ghost use Rattle.ostore_job_text.specs.Report.{name_text, listed_text, names_text, value_text, refusal_text, reply_text, reply_line};
 
 use crate::report::pieces::{push_int, push_number, push_quoted};
 use ostore_base::{OutOfMemory, Text};
@@ -108,61 +108,7 @@ fn push_refusal(out: &mut Text, refusal: Refusal) -> Result<(), OutOfMemory>
     ensures { OnOk result (out.new ≡ out.old ++ refusal_text refusal) }
 {
     out.push_bytes(b"refused ")?;
-    push_number(out, number_of(refusal))?;
+    push_number(out, refusal.number())?;
     out.push_bytes(b" ")?;
-    out.push_bytes(name_of(refusal).as_bytes())
-}
-
-/// The number of a refusal.
-fn number_of(refusal: Refusal) -> u64
-    ensures { result ≡ refusal_number refusal }
-{
-    match refusal {
-        Refusal::NoVariable => 1,
-        Refusal::NoMember => 2,
-        Refusal::WrongKind => 3,
-        Refusal::WrongType => 4,
-        Refusal::Dangling => 5,
-        Refusal::Null => 6,
-        Refusal::NoRoot => 7,
-        Refusal::TextTooLong => 8,
-        Refusal::NoKey => 9,
-        Refusal::OutOfRange => 10,
-        Refusal::NotMember => 11,
-        Refusal::AlreadyMember => 12,
-        Refusal::NotIndexable => 13,
-        Refusal::IndexThere => 14,
-        Refusal::NoIndex => 15,
-        Refusal::ReadOnly => 16,
-        Refusal::NoObject => 17,
-        Refusal::SerialsSpent => 18,
-        Refusal::RootsFull => 19,
-    }
-}
-
-/// The name of a refusal.
-fn name_of(refusal: Refusal) -> &'static str
-    ensures { result.now ≡ refusal_name refusal }
-{
-    match refusal {
-        Refusal::NoVariable => "NoVariable",
-        Refusal::NoMember => "NoMember",
-        Refusal::WrongKind => "WrongKind",
-        Refusal::WrongType => "WrongType",
-        Refusal::Dangling => "Dangling",
-        Refusal::Null => "Null",
-        Refusal::NoRoot => "NoRoot",
-        Refusal::TextTooLong => "TextTooLong",
-        Refusal::NoKey => "NoKey",
-        Refusal::OutOfRange => "OutOfRange",
-        Refusal::NotMember => "NotMember",
-        Refusal::AlreadyMember => "AlreadyMember",
-        Refusal::NotIndexable => "NotIndexable",
-        Refusal::IndexThere => "IndexThere",
-        Refusal::NoIndex => "NoIndex",
-        Refusal::ReadOnly => "ReadOnly",
-        Refusal::NoObject => "NoObject",
-        Refusal::SerialsSpent => "SerialsSpent",
-        Refusal::RootsFull => "RootsFull",
-    }
+    out.push_bytes(refusal.name().as_bytes())
 }

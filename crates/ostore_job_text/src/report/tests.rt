@@ -6,6 +6,7 @@ use crate::results::{Cause, ClientResults, Tail, TxnResult};
 use ostore_base::{ListOf, OutOfMemory, PageNo, Text};
 use ostore_graph_model::{Listed, Name, Refusal, Replies, Reply, Value};
 use std::alloc::Global;
+use std::fmt::Write;
 use std::test::Fail;
 
 const EXPECTED: &[u8] = b"a.1 commit 1
@@ -163,5 +164,111 @@ fn an_empty_job_has_its_last_line(rt: HostRuntime) -> Result<(), Fail> {
     };
     let text = print_report(alloc, &job, &ListOf::new(alloc), tail)?;
     assert_eq!(rt; text.bytes(), b"commits 0\n".as_slice());
+    Ok(())
+}
+
+/// So many transactions, each with the replies `ok` and its number's name in segment 1.
+fn many_results(alloc: Global, count: u32) -> Result<ClientResults, OutOfMemory> {
+    let mut results = ListOf::new(alloc);
+    for i in 1..=count {
+        let replies = vec![in alloc; Reply::Done, Reply::Named(name(1, i))]?;
+        results.push(TxnResult::Commit {
+            number: u64::from(i),
+            tries: 1,
+            replies: ListOf::from_vec(replies),
+        })?;
+    }
+    Ok(results)
+}
+
+/// The report of a client with these results, which has so many commits.
+fn report_of_one(alloc: Global, results: ClientResults, commits: u64) -> Result<Text, OutOfMemory> {
+    let clients = vec![in alloc; client(alloc, b"a")?]?;
+    let job = Job {
+        clients: ListOf::from_vec(clients),
+        turns: ListOf::new(alloc),
+    };
+    let results = ListOf::from_vec(vec![in alloc; results]?);
+    let tail = Tail {
+        disk_fault_after: None,
+        commits,
+        fetches: None,
+    };
+    print_report(alloc, &job, &results, tail)
+}
+
+#[test]
+fn a_long_report(rt: HostRuntime) -> Result<(), Fail> {
+    let alloc = rt.alloc();
+    let text = report_of_one(alloc, many_results(alloc, 2000)?, 2000)?;
+    let mut expected = String::new(alloc);
+    for i in 1..=2000u32 {
+        writeln!(expected, "a.{i} commit {i}\n  ok\n  1.{i}")?;
+    }
+    expected.push_str("commits 2000\n")?;
+    assert!(rt; text.bytes() == expected.as_bytes());
+    Ok(())
+}
+
+const EXPECTED_REFUSALS: &[u8] = b"a.1 commit 1
+  refused 1 NoVariable
+  refused 2 NoMember
+  refused 3 WrongKind
+  refused 4 WrongType
+  refused 5 Dangling
+  refused 6 Null
+  refused 7 NoRoot
+  refused 8 TextTooLong
+  refused 9 NoKey
+  refused 10 OutOfRange
+  refused 11 NotMember
+  refused 12 AlreadyMember
+  refused 13 NotIndexable
+  refused 14 IndexThere
+  refused 15 NoIndex
+  refused 16 ReadOnly
+  refused 17 NoObject
+  refused 18 SerialsSpent
+  refused 19 RootsFull
+commits 1
+";
+
+const REFUSALS: [Refusal; 19] = [
+    Refusal::NoVariable,
+    Refusal::NoMember,
+    Refusal::WrongKind,
+    Refusal::WrongType,
+    Refusal::Dangling,
+    Refusal::Null,
+    Refusal::NoRoot,
+    Refusal::TextTooLong,
+    Refusal::NoKey,
+    Refusal::OutOfRange,
+    Refusal::NotMember,
+    Refusal::AlreadyMember,
+    Refusal::NotIndexable,
+    Refusal::IndexThere,
+    Refusal::NoIndex,
+    Refusal::ReadOnly,
+    Refusal::NoObject,
+    Refusal::SerialsSpent,
+    Refusal::RootsFull,
+];
+
+#[test]
+fn every_refusal_is_printed(rt: HostRuntime) -> Result<(), Fail> {
+    let alloc = rt.alloc();
+    let mut replies = ListOf::new(alloc);
+    for refusal in REFUSALS {
+        replies.push(Reply::Refused(refusal))?;
+    }
+    let mut results = ListOf::new(alloc);
+    results.push(TxnResult::Commit {
+        number: 1,
+        tries: 1,
+        replies,
+    })?;
+    let text = report_of_one(alloc, results, 1)?;
+    assert_eq!(rt; text.bytes(), EXPECTED_REFUSALS);
     Ok(())
 }

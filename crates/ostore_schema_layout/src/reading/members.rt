@@ -1,7 +1,7 @@
 //! The lines of members: a name, a kind, and what the kind takes.
 
 ghost use Rattle.std.specs.Prelude.{Some};
-ghost use Rattle.ostore_text_words.specs.Reading.{seen_line};
+ghost use Rattle.ostore_text_words.specs.Seen.{seen_line};
 ghost use Rattle.ostore_schema_layout.specs.Declaring.{named_inverse_at, inverse_at, text_at, ref_at, set_at, list_at, dict_int_at, dict_text_at, dict_at, kind_at, member_at, ended as ended_at};
 ghost use Rattle.ostore_schema_layout.specs.declared.declarations.KindDeclaration.TheVariants.{Int};
 ghost use Rattle.ostore_schema_layout.specs.Judging.{Gives};

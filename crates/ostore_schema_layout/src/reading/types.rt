@@ -1,7 +1,7 @@
 //! The types that lines declare, with their members.
 
 ghost use Rattle.std.specs.Prelude.{◌≡◌, ◌<◌, length};
-ghost use Rattle.ostore_text_words.specs.Reading.{seen_line, seen_lines};
+ghost use Rattle.ostore_text_words.specs.Seen.{seen_line, seen_lines};
 ghost use Rattle.ostore_schema_layout.specs.Declaring.{is_type_line, type_name_at, declared_by};
 ghost use Rattle.ostore_schema_layout.specs.Judging.{Gives, GivesMembers, GivesType};
 

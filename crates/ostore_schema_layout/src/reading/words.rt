@@ -2,7 +2,7 @@
 
 ghost use Rattle.std.specs.Prelude.{◌≡◌};
 ghost use Rattle.std.specs.List.{slice_get};
-ghost use Rattle.ostore_text_words.specs.Reading.{seen_word, seen_line};
+ghost use Rattle.ostore_text_words.specs.Seen.{seen_word, seen_line};
 ghost use Rattle.ostore_schema_layout.specs.Declaring.{word_at, name_at, keyword_at, max_at};
 ghost use Rattle.ostore_schema_layout.specs.Judging.{Gives, GivesEnd};
 

@@ -3,7 +3,7 @@
 ghost use Rattle.std.specs.Prelude.{◌≡◌, ◌+◌, ◌^◌, ◌<◌, ◌≤◌, nat_le, nat_lt, not, position, length, map, take, drop, IfOk, ◌==◌};
 ghost use Rattle.std.specs.List.{list_all, prefix_len};
 ghost use Rattle.ostore_text_words.specs.Lines.{plain_length, quoted_length, word_length, judged_at, placed, words_behind, is_only};
-ghost use Rattle.ostore_text_words.specs.Reading.{seen_word};
+ghost use Rattle.ostore_text_words.specs.Seen.{seen_word};
 
 use super::Word;
 use ostore_base::{ListOf, OutOfMemory};

@@ -31,6 +31,10 @@ fn whole_text(rt: HostRuntime) -> Result<(), Fail> {
     let input = read_try_input(rt.alloc(), WHOLE)?;
     for client in input.job.clients.items() {
         assert_eq!(rt; client.name.bytes(), b"a".as_slice());
+        assert_eq!(rt;
+            [client.tries, client.cache, client.frames],
+            [16, 256, 65536]
+        );
         for txn in client.txns.items() {
             assert!(rt; txn.update);
             for command in txn.commands.items() {
@@ -133,6 +137,33 @@ fn text_of_members(alloc: Global, count: u8) -> Result<String, Fail> {
         writeln!(text, "m{i} int")?;
     }
     Ok(text)
+}
+
+#[test]
+fn many_transactions_and_variables(rt: HostRuntime) -> Result<(), Fail> {
+    let mut text = String::from_str(rt.alloc(), "type Part\nid int\njob\nclient a\nbegin\n")?;
+    for i in 0..1000u32 {
+        writeln!(text, "new $v{i} Part 1")?;
+    }
+    text.push_str("commit\n")?;
+    for i in 0..1999u32 {
+        writeln!(text, "begin\nget $v{i}.id\ncommit")?;
+    }
+    assert_eq!(rt; sizes(rt.alloc(), text.as_bytes())?, [1, 1, 1, 2000, 1000]);
+    Ok(())
+}
+
+#[test]
+fn texts_to_the_limit(rt: HostRuntime) -> Result<(), Fail> {
+    // A schema has at most 32,764 bytes, so the comment stands in the job.
+    let mut text = Vec::new(rt.alloc());
+    text.extend_from_slice(WHOLE)?;
+    let comment = vec![in rt.alloc(); b'#'; 4_194_304 - WHOLE.len()]?;
+    text.extend_from_slice(&comment)?;
+    assert_eq!(rt; sizes(rt.alloc(), &text)?, [1, 1, 1, 1, 3]);
+    text.push(b'#')?;
+    assert!(rt; matches!(read_try_input(rt.alloc(), &text), Err(TryFault::Refused)));
+    Ok(())
 }
 
 #[test]

@@ -1,11 +1,10 @@
-use Rattle.std.proofs.Common.{◌≡◌, ◌+◌, ◌++◌, eqb, length, drop}
-use Rattle.std.specs.List.{slice_split}
+use Rattle.std.proofs.Common.{◌≡◌, ◌++◌, length}
 use Rattle.ostore_text_words.specs.Lines.{lines_of}
-use Rattle.ostore_text_words.specs.Reading.{seen_lines}
-use Rattle.ostore_text_words.proofs.LineReaders.{span, lines_left}
+use Rattle.ostore_text_words.specs.Seen.{seen_lines}
+use Rattle.ostore_text_words.specs.inside.LineWalk.{lines_left}
+use Rattle.ostore_text_words.proofs.LineReaders.{AreWithin, worded}
 use Rattle.ostore_text_words.proofs.lines.read_lines.Given as goal
 
 abbrev pub invariant-loop-line : goal.invariant-loop-line
 invariant-loop-line l =
-    (l.at + span (drop (length l.yielded) (slice_split (λ b. eqb b 10) l.text)) ≡ length l.text + 1)
-    × (seen_lines l.lines ++ lines_left l.at (drop (length l.yielded) (slice_split (λ b. eqb b 10) l.text)) ≡ lines_of l.text)
+    AreWithin (length l.text) (lines_left l.line-iterator) × (seen_lines l.lines ++ worded (lines_left l.line-iterator) ≡ lines_of l.text)

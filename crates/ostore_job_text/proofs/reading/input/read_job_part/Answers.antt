@@ -1,7 +1,7 @@
 use Rattle.std.proofs.Common.{sym, ap, ◌∙◌}
 use Rattle.ostore_text_words.specs.Lines.{bare_lines}
-use Rattle.ostore_text_words.specs.Reading.{seen_lines as placed_lines}
-use Rattle.ostore_job_text.specs.Reading.{seen_lines}
+use Rattle.ostore_text_words.specs.Seen.{seen_lines as placed_lines}
+use Rattle.ostore_job_text.specs.inside.JobAt.{seen_lines}
 use Rattle.ostore_job_text.proofs.GrammarInput.{lines_seen, is_read, is_only_job, is_refused, utf8_told, not_utf8}
 use Rattle.ostore_job_text.proofs.reading.input.read_job_part.Goals as goal
 

@@ -1,7 +1,7 @@
 use Rattle.std.proofs.Common.{◌+◌, List, ℕ, true, drop, codes, sym, ap, ◌∙◌, arith}
 use Rattle.ostore_text_words.specs.declared.lines.Word.{Word}
 use Rattle.std.proofs.lemmas.Result.{err_from_is_err_and}
-use Rattle.ostore_job_text.specs.Reading.{seen_words, seen_lines, is_only, txns_at}
+use Rattle.ostore_job_text.specs.inside.JobAt.{seen_words, seen_lines, is_only, txns_at}
 use Rattle.ostore_job_text.proofs.GrammarLoops.{with_commands, seen_step, seen_end, commit_step, command_step, command_fails, commands_end}
 use Rattle.ostore_job_text.proofs.reading.jobs.read_commands.Goals as goal
 

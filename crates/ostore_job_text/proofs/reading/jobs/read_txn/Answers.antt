@@ -1,7 +1,7 @@
 use Rattle.std.proofs.Common.{List, ℕ, true, false, Ok, drop, sym, ap, subst, ◌∙◌}
 use Rattle.ostore_text_words.specs.declared.lines.Line.{Line}
 use Rattle.std.proofs.lemmas.Result.{err_from_is_err_and}
-use Rattle.ostore_job_text.specs.Reading.{Fails, GivesCommands, seen_words, seen_lines, txns_at}
+use Rattle.ostore_job_text.specs.inside.JobAt.{Fails, GivesCommands, seen_words, seen_lines, txns_at}
 use Rattle.ostore_job_text.proofs.GrammarLoops.{seen_step, tail_is, no_begin, begin_fails, txn_found}
 use Rattle.ostore_job_text.proofs.reading.jobs.read_txn.Goals as goal
 

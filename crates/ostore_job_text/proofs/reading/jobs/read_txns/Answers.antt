@@ -1,5 +1,5 @@
 use Rattle.std.proofs.Common.{List, ℕ, false, sym, ap, ◌∙◌, arith}
-use Rattle.ostore_job_text.specs.Reading.{seen_lines, txns_at}
+use Rattle.ostore_job_text.specs.inside.JobAt.{seen_lines, txns_at}
 use Rattle.ostore_job_text.proofs.GrammarLoops.{seen_end, with_txns, no_commands, txns_end}
 use Rattle.ostore_job_text.proofs.reading.jobs.read_txns.Goals as goal
 

@@ -1,5 +1,5 @@
 use Rattle.std.proofs.Common.{◌≡◌, ◌≤◌, ◌-◌, false, drop, length}
-use Rattle.ostore_job_text.specs.Reading.{seen_lines, txns_at}
+use Rattle.ostore_job_text.specs.inside.JobAt.{seen_lines, txns_at}
 use Rattle.ostore_job_text.proofs.GrammarLoops.{with_txns}
 use Rattle.ostore_job_text.proofs.reading.jobs.read_txns.Given as goal
 

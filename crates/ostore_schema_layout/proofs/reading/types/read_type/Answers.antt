@@ -1,7 +1,7 @@
 use Rattle.std.proofs.Common.{List, Ok, drop, subst}
 use Rattle.std.proofs.lemmas.Result.{err_from_is_err_and}
 use Rattle.ostore_text_words.specs.declared.lines.Line.{Line}
-use Rattle.ostore_text_words.specs.Reading.{seen_line, seen_lines}
+use Rattle.ostore_text_words.specs.Seen.{seen_line, seen_lines}
 use Rattle.ostore_schema_layout.specs.Declaring.{declared_behind}
 use Rattle.ostore_schema_layout.specs.Judging.{Fails, GivesMembers}
 use Rattle.ostore_schema_layout.proofs.ReaderLaws.{seen_step, tail_is, name_fails, behind_fails, type_found}

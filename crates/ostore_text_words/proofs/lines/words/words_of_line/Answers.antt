@@ -1,6 +1,6 @@
 use Rattle.std.proofs.Common.{map, arith}
 use Rattle.std.proofs.lemmas.List.{take_rest, map_push}
-use Rattle.ostore_text_words.specs.Reading.{seen_word}
+use Rattle.ostore_text_words.specs.Seen.{seen_word}
 use Rattle.ostore_text_words.proofs.WordPlaces.{space_next, word_next, words_end}
 use Rattle.ostore_text_words.proofs.lines.words.words_of_line.Goals as goal
 

@@ -1,6 +1,6 @@
 use Rattle.std.proofs.Common.{◌≡◌, ◌+◌, ◌-◌, ◌≤◌, length, map, drop, ◌++◌}
 use Rattle.ostore_text_words.specs.Lines.{words_behind}
-use Rattle.ostore_text_words.specs.Reading.{seen_word}
+use Rattle.ostore_text_words.specs.Seen.{seen_word}
 use Rattle.ostore_text_words.proofs.lines.words.words_of_line.Given as goal
 
 abbrev pub invariant-loop-taken : goal.invariant-loop-taken

@@ -1,4 +1,4 @@
--- Reading a job: a second function on the words of each line, which gives the job that they spell, or
+-- The job that lines spell: a second function on the words of each line, which gives the job that they spell, or
 -- nothing. The code is tied to it, and laws tie it to the grammar.
 use Rattle.std.specs.Prelude.{◌≡◌, ◌<◌, ◌≤◌, ℕ, Bool, true, false, ◌&&◌, List, [], ◌∷◌, length, map, drop, Option, Some, None, Result, Ok, Err, codes, if◌then◌else◌}
 use Rattle.std.specs.Str.{bytes_eq}
@@ -11,10 +11,10 @@ use Rattle.ostore_graph_model.specs.declared.commands.Operand.TheVariants as ope
 use Rattle.ostore_graph_model.specs.declared.commands.Txn.{Txn}
 use Rattle.ostore_job_text.specs.declared.job.Job.{Job}
 use Rattle.ostore_job_text.specs.declared.job.JobClient.{JobClient}
-use Rattle.ostore_job_text.specs.declared.job.TheConstants.{DEFAULT_TRIES, DEFAULT_CACHE, DEFAULT_FRAMES}
 use Rattle.ostore_job_text.specs.declared.reading.fault.ReadFault.{ReadFault}
 use Rattle.ostore_job_text.specs.declared.reading.fault.ReadFault.TheVariants as faults
-use Rattle.ostore_job_text.specs.WordReading.{variable_at, place_at, segment_at}
+use Rattle.ostore_job_text.specs.Limits.{default_tries, default_cache, default_frames}
+use Rattle.ostore_job_text.specs.inside.CommandWords.{variable_at, place_at, segment_at}
 
 -- What a function gave, seen by view, is what reading gives, unless memory ran out.
 abbrev pub Fails : {Y : Type 0} → ReadFault → Option Y → Type 0
@@ -123,7 +123,7 @@ named_at word (first ∷ name ∷ []) = checked (bytes_eq first word && is_ident
 named_at word (first ∷ second ∷ third ∷ others) = None
 
 abbrev pub client_of : List ℕ → List Txn → JobClient
-client_of name txns = record { name = name; tries = DEFAULT_TRIES; cache = DEFAULT_CACHE; frames = DEFAULT_FRAMES; txns = txns }
+client_of name txns = record { name = name; tries = default_tries; cache = default_cache; frames = default_frames; txns = txns }
 
 -- the client that its line and its transactions' lines spell
 unfoldable pub client_at : List (List ℕ) → List (List (List ℕ)) → Option JobClient

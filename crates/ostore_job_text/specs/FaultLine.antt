@@ -4,9 +4,12 @@ use Rattle.ostore_schema_layout.specs.declared.fault.SchemaFault.{SchemaFault}
 use Rattle.ostore_schema_layout.specs.Titles.{fault_title, fault_place}
 use Rattle.ostore_job_text.specs.Spelling.{schema_fault}
 
--- `schema fault NUMBER NAME at PLACE`
+-- `WORD fault NUMBER NAME at PLACE`, of which a title is the number and the name
+abbrev pub fault_at_place : List ℕ → List ℕ → ℕ → List ℕ
+fault_at_place word title place = word ++ codes " fault " ++ title ++ codes " at " ++ decimal place ++ codes "\n"
+
 abbrev pub fault_line : SchemaFault → List ℕ
-fault_line fault = codes "schema fault " ++ fault_title fault ++ codes " at " ++ decimal (fault_place fault) ++ codes "\n"
+fault_line fault = fault_at_place (codes "schema") (fault_title fault) (fault_place fault)
 
 -- the fault of the schema's part where there is one
 abbrev pub line_of_fault : Option SchemaFault → List ℕ
