@@ -21,7 +21,7 @@ use Rattle.ostore_job_text.specs.declared.results.TxnResult.{TxnResult}
 use Rattle.ostore_job_text.specs.declared.results.TxnResult.TheVariants.{Commit}
 use Rattle.ostore_job_text.specs.Results.{committed_as, committed_from, committed_of, EndedAtOnce}
 use Rattle.ostore_job_text.specs.Spelling.{IsBuiltTxn}
-use Rattle.ostore_cli.specs.Running.{Outcomes, with_before, outcomes_from}
+use Rattle.ostore_cli.specs.inside.Outcomes.{Outcomes, with_before, outcomes_from}
 
 -- ---- a run as a relation
 

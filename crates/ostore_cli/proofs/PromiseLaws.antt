@@ -1,22 +1,21 @@
 -- A right answer, printed, keeps the promise.
-use Rattle.std.proofs.Common.{◌≡◌, ℕ, ◌<◌, ◌≤◌, List, length, take, Option, Some, None, refl, sym, ap, subst, ◌∙◌, arith, inl, inr, ⊎_elim, eqb, false, eq-eqb}
-use Rattle.std.specs.Prelude.{IfSome, codes}
+use Rattle.std.proofs.Common.{◌≡◌, ℕ, ◌<◌, ◌≤◌, List, length, take, Option, Some, None, refl, sym, ap, subst, ◌∙◌, arith, inl, inr, eqb, false, eq-eqb}
+use Rattle.std.specs.Prelude.{◌≢◌, IfSome, codes}
 use Rattle.std.proofs.lemmas.Bool.{false≢true, cases_lt, lt-leb}
 use Rattle.std.proofs.lemmas.List.{take_all, length-take}
 use Rattle.ostore_job_text.specs.FaultLine.{refusal_line}
 use Rattle.ostore_job_text.specs.Spelling.{Says, IsRefused}
-use Rattle.ostore_cli.specs.declared.streams.reading.TheConstants.{LONGEST_READ}
 use Rattle.ostore_cli.specs.declared.answers.Answer.{Answer}
 use Rattle.ostore_cli.specs.declared.answers.Answer.TheVariants.{Report, WordsRefused, TextRefused, SchemaFault, SourceFault, OutOfMemory}
-use Rattle.ostore_cli.specs.Streams.{IsWholeRead}
-use Rattle.ostore_cli.specs.Promise.{End, HasText, IsReportOf, IsReportFrom, IsRefusalOf, KeepsPromise}
+use Rattle.ostore_cli.specs.Streams.{longest_read, IsWholeRead}
+use Rattle.ostore_cli.specs.Promise.{End, Call, HasText, IsReadThrough, IsReportOf, IsReportFrom, IsRefusalOf, EndsAt, reported, words_refused, text_refused, source_failed, sink_failed, memory_refused, IsRefusalStatus, KeepsPromise}
 use Rattle.ostore_cli.specs.Commands.{IsRow}
-use Rattle.ostore_cli.specs.Answers.{IsAnswerTo, IsTextAnswer, IsPrintOf}
+use Rattle.ostore_cli.specs.inside.Answer.{IsAnswerTo, IsTextAnswer, IsLinePrint, IsPrintOf}
 
 -- a text that isn't too long is all of what a source had
-all_of_it : (bytes all : List ℕ) → all ≡ take LONGEST_READ bytes → length all ≤ 4194304 → all ≡ bytes
+all_of_it : (bytes all : List ℕ) → all ≡ take longest_read bytes → length all ≤ 4194304 → all ≡ bytes
 all_of_it bytes all front short =
-    front ∙ take_all LONGEST_READ bytes (omega (arith, length-take LONGEST_READ bytes, ap length front))
+    front ∙ take_all longest_read bytes (omega (arith, length-take longest_read bytes, ap length front))
 
 -- a report of what was read is one of what the source had
 pub report_from : (source : End) (now : Option (List ℕ)) (all output : List ℕ) → IsWholeRead source.bytes now all → IsReportOf all output → IsReportFrom source output
@@ -42,7 +41,7 @@ refusal_told None now all line read refused named = (all, tt, refused, named)
 refusal_told (Some b) now all line read refused named =
     elim (cases_lt 4194304 (length all)) [
       | inl long ↦
-          let more = too_long b (omega (arith, long, length-take LONGEST_READ b, ap length read.1)) in
+          let more = too_long b (omega (arith, long, length-take longest_read b, ap length read.1)) in
           (b, refl, more.0, named ∙ (too_long all long).1 ∙ sym more.1)
       | inr short ↦ (all, sym (all_of_it b all read.1 short), refused, named)
     ]
@@ -51,14 +50,6 @@ pub refusal_from : (source : End) (now : Option (List ℕ)) (all line : List ℕ
 refusal_from source now all line read refused named =
     let told = refusal_told source.bytes now all line read refused named in
     record { text = told.0; had = told.1; refused = told.2; named = told.3 }
-
--- what is said of the source's bytes, where it tells
-refused_told : (bytes : Option (List ℕ)) (text : List ℕ) → HasText bytes text → IsRefused text → IfSome bytes IsRefused
-refused_told None text had refused = tt
-refused_told (Some b) text had refused = subst IsRefused (sym had) refused
-
-refused_bytes : (source : End) (line : List ℕ) → IsRefusalOf source line → IfSome source.bytes IsRefused
-refused_bytes source line refusal = refused_told source.bytes refusal.text refusal.had refusal.refused
 
 -- a text with a report isn't refused
 not_refused : (source : End) (output : List ℕ) → IsReportFrom source output → IfSome source.bytes (λ text. IsRefused text → ⊥)
@@ -78,123 +69,84 @@ always : (bytes : Option (List ℕ)) (P : Type 0) → P → IfSome bytes (λ tex
 always None P h = tt
 always (Some b) P h = λ refused. h
 
--- a status is one number
-clash : {P : Type 0} (status m n : ℕ) → status ≡ m → status ≡ n → eqb m n ≡ false → P
-clash status m n is too differ = absurd (false≢true (sym differ ∙ eq-eqb m n (sym is ∙ too)))
+-- two numbers that differ
+differ : {P : Type 0} (status m n : ℕ) → status ≡ m → status ≡ n → eqb m n ≡ false → P
+differ status m n is too apart = absurd (false≢true (sym apart ∙ eq-eqb m n (sym is ∙ too)))
 
-pub promise : (words : List (List ℕ)) (source source_after sink sink_after : End) (status : ℕ) (answer : Answer) → IsAnswerTo words source source_after answer → IsPrintOf answer sink sink_after status → KeepsPromise words source source_after sink sink_after status
-promise words source source_after sink sink_after status (Report output) answers (inl printed) = record {
-  statuses = inl printed.0;
-  report = λ e. record { output = output; report = answers.2; printed = printed.1 };
-  words_only = (λ e. clash _ _ _ printed.0 e refl, λ no. absurd (no answers.0));
-  words_line = λ e. clash _ _ _ printed.0 e refl;
-  words_read = λ e. clash _ _ _ printed.0 e refl;
-  text = λ e. clash _ _ _ printed.0 e refl;
-  text_only = λ row. none_refused source.bytes _ (not_refused source output answers.2);
-  text_line = λ e. clash _ _ _ printed.0 e refl;
-  source_fault = λ e. clash _ _ _ printed.0 e refl;
-  source_only = λ ne. answers.1.no_fault;
-  source_line = λ e. clash _ _ _ printed.0 e refl;
-  sink_fault = λ e. clash _ _ _ printed.0 e refl;
-  memory_line = λ e. clash _ _ _ printed.0 e refl;
-  read = λ e. (answers.1.text, answers.1.read);
+-- what a promise is to a call whose words are a row, which ends at status n
+served : (call : Call) (status n : ℕ) → status ≡ n → eqb n 2 ≡ false → IsRow call.words
+    → EndsAt call n
+    → IfSome call.source.bytes (λ text. IsRefused text → IsRefusalStatus status)
+    → (status ≢ 6 → call.source_after.faults ≡ call.source.faults) → KeepsPromise call status
+served call status n is apart row ends by_text by_source = record {
+  ends = subst (EndsAt call) (sym is) ends;
+  by_words = (λ two. differ status n 2 is two apart, λ no_row. absurd (no_row row));
+  by_text = λ _. by_text;
+  by_source = by_source;
 }
-promise words source source_after sink sink_after status (Report output) answers (inr printed) = record {
-  statuses = inr (inr (inr (inr (inl printed.0))));
-  report = λ e. clash _ _ _ printed.0 e refl;
-  words_only = (λ e. clash _ _ _ printed.0 e refl, λ no. absurd (no answers.0));
-  words_line = λ e. clash _ _ _ printed.0 e refl;
-  words_read = λ e. clash _ _ _ printed.0 e refl;
-  text = λ e. clash _ _ _ printed.0 e refl;
-  text_only = λ row. none_refused source.bytes _ (not_refused source output answers.2);
-  text_line = λ e. clash _ _ _ printed.0 e refl;
-  source_fault = λ e. clash _ _ _ printed.0 e refl;
-  source_only = λ ne. answers.1.no_fault;
-  source_line = λ e. clash _ _ _ printed.0 e refl;
-  sink_fault = λ e. record { output = output; report = answers.2; printed = printed.1 };
-  memory_line = λ e. clash _ _ _ printed.0 e refl;
-  read = λ e. (answers.1.text, answers.1.read);
+
+-- the line of a refused text, printed
+refused : (call : Call) (status : ℕ) (line : List ℕ)
+    → IsRow call.words × IsReadThrough call.source call.source_after × IsRefusalOf call.source line
+    → IsLinePrint line 3 call.sink call.sink_after status → KeepsPromise call status
+refused call status line answers printed =
+    served call status 3 printed.0 refl answers.0
+    (text_refused (record {
+      row = answers.0;
+      read = answers.1;
+      line = line;
+      refusal = answers.2;
+      printed = printed.1;
+    }))
+    (always call.source.bytes _ (inl printed.0))
+    (λ _. answers.1.no_fault)
+
+-- a right answer, printed, keeps the promise
+pub promise : (call : Call) (status : ℕ) (answer : Answer)
+    → IsAnswerTo call.words call.source call.source_after answer
+    → IsPrintOf answer call.sink call.sink_after status → KeepsPromise call status
+promise call status (Report output) answers (inl printed) =
+    served call status 0 printed.0 refl answers.0
+    (reported (record {
+      row = answers.0;
+      read = answers.1;
+      output = output;
+      report = answers.2;
+      printed = printed.1;
+    }))
+    (none_refused call.source.bytes _ (not_refused call.source output answers.2))
+    (λ _. answers.1.no_fault)
+promise call status (Report output) answers (inr printed) =
+    served call status 7 printed.0 refl answers.0
+    (sink_failed (record {
+      row = answers.0;
+      read = answers.1;
+      output = output;
+      report = answers.2;
+      printed = printed.1;
+    }))
+    (none_refused call.source.bytes _ (not_refused call.source output answers.2))
+    (λ _. answers.1.no_fault)
+promise call status WordsRefused answers printed = record {
+  ends = subst (EndsAt call) (sym printed.0)
+      (words_refused (record { no_row = answers.0; unread = answers.1; printed = printed.1 }));
+  by_words = (λ _. answers.0, λ _. printed.0);
+  by_text = λ row. absurd (answers.0 row);
+  by_source = λ _. answers.1.faults;
 }
-promise words source source_after sink sink_after status WordsRefused answers printed = record {
-  statuses = inr (inl printed.0);
-  report = λ e. clash _ _ _ printed.0 e refl;
-  words_only = (λ e. answers.0, λ no. printed.0);
-  words_line = λ e. printed.1;
-  words_read = λ e. answers.1;
-  text = λ e. clash _ _ _ printed.0 e refl;
-  text_only = λ row. absurd (answers.0 row);
-  text_line = λ e. clash _ _ _ printed.0 e refl;
-  source_fault = λ e. clash _ _ _ printed.0 e refl;
-  source_only = λ ne. answers.1.faults;
-  source_line = λ e. clash _ _ _ printed.0 e refl;
-  sink_fault = λ e. clash _ _ _ printed.0 e refl;
-  memory_line = λ e. clash _ _ _ printed.0 e refl;
-  read = ⊎_elim (λ e. clash _ _ _ printed.0 e refl) (⊎_elim (λ e. clash _ _ _ printed.0 e refl) (λ e. clash _ _ _ printed.0 e refl));
-}
-promise words source source_after sink sink_after status TextRefused answers printed = record {
-  statuses = inr (inr (inl printed.0));
-  report = λ e. clash _ _ _ printed.0 e refl;
-  words_only = (λ e. clash _ _ _ printed.0 e refl, λ no. absurd (no answers.0));
-  words_line = λ e. clash _ _ _ printed.0 e refl;
-  words_read = λ e. clash _ _ _ printed.0 e refl;
-  text = λ e. refused_bytes source (codes "text refused\n") answers.2;
-  text_only = λ row. always source.bytes _ (inl printed.0);
-  text_line = λ e. record { line = codes "text refused\n"; refusal = answers.2; printed = printed.1 };
-  source_fault = λ e. clash _ _ _ printed.0 e refl;
-  source_only = λ ne. answers.1.no_fault;
-  source_line = λ e. clash _ _ _ printed.0 e refl;
-  sink_fault = λ e. clash _ _ _ printed.0 e refl;
-  memory_line = λ e. clash _ _ _ printed.0 e refl;
-  read = λ e. (answers.1.text, answers.1.read);
-}
-promise words source source_after sink sink_after status (SchemaFault line) answers printed = record {
-  statuses = inr (inr (inl printed.0));
-  report = λ e. clash _ _ _ printed.0 e refl;
-  words_only = (λ e. clash _ _ _ printed.0 e refl, λ no. absurd (no answers.0));
-  words_line = λ e. clash _ _ _ printed.0 e refl;
-  words_read = λ e. clash _ _ _ printed.0 e refl;
-  text = λ e. refused_bytes source line answers.2;
-  text_only = λ row. always source.bytes _ (inl printed.0);
-  text_line = λ e. record { line = line; refusal = answers.2; printed = printed.1 };
-  source_fault = λ e. clash _ _ _ printed.0 e refl;
-  source_only = λ ne. answers.1.no_fault;
-  source_line = λ e. clash _ _ _ printed.0 e refl;
-  sink_fault = λ e. clash _ _ _ printed.0 e refl;
-  memory_line = λ e. clash _ _ _ printed.0 e refl;
-  read = λ e. (answers.1.text, answers.1.read);
-}
-promise words source source_after sink sink_after status SourceFault answers printed = record {
-  statuses = inr (inr (inr (inl printed.0)));
-  report = λ e. clash _ _ _ printed.0 e refl;
-  words_only = (λ e. clash _ _ _ printed.0 e refl, λ no. absurd (no answers.0));
-  words_line = λ e. clash _ _ _ printed.0 e refl;
-  words_read = λ e. clash _ _ _ printed.0 e refl;
-  text = λ e. clash _ _ _ printed.0 e refl;
-  text_only = λ row. always source.bytes _ (inr (inl printed.0));
-  text_line = λ e. clash _ _ _ printed.0 e refl;
-  source_fault = λ e. answers.1;
-  source_only = λ ne. absurd (ne printed.0);
-  source_line = λ e. printed.1;
-  sink_fault = λ e. clash _ _ _ printed.0 e refl;
-  memory_line = λ e. clash _ _ _ printed.0 e refl;
-  read = ⊎_elim (λ e. clash _ _ _ printed.0 e refl) (⊎_elim (λ e. clash _ _ _ printed.0 e refl) (λ e. clash _ _ _ printed.0 e refl));
-}
-promise words source source_after sink sink_after status OutOfMemory answers printed = record {
-  statuses = inr (inr (inr (inr (inr printed.0))));
-  report = λ e. clash _ _ _ printed.0 e refl;
-  words_only = (λ e. clash _ _ _ printed.0 e refl, λ no. absurd (no answers.0));
-  words_line = λ e. clash _ _ _ printed.0 e refl;
-  words_read = λ e. clash _ _ _ printed.0 e refl;
-  text = λ e. clash _ _ _ printed.0 e refl;
-  text_only = λ row. always source.bytes _ (inr (inr printed.0));
-  text_line = λ e. clash _ _ _ printed.0 e refl;
-  source_fault = λ e. clash _ _ _ printed.0 e refl;
-  source_only = λ ne. answers.1;
-  source_line = λ e. clash _ _ _ printed.0 e refl;
-  sink_fault = λ e. clash _ _ _ printed.0 e refl;
-  memory_line = λ e. printed.1;
-  read = ⊎_elim (λ e. clash _ _ _ printed.0 e refl) (⊎_elim (λ e. clash _ _ _ printed.0 e refl) (λ e. clash _ _ _ printed.0 e refl));
-}
+promise call status TextRefused answers printed =
+    refused call status (codes "text refused\n") answers printed
+promise call status (SchemaFault line) answers printed = refused call status line answers printed
+promise call status SourceFault answers printed =
+    served call status 6 printed.0 refl answers.0
+    (source_failed (record { row = answers.0; fault = answers.1; printed = printed.1 }))
+    (always call.source.bytes _ (inr (inl printed.0)))
+    (λ other. absurd (other printed.0))
+promise call status OutOfMemory answers printed =
+    served call status 8 printed.0 refl answers.0
+    (memory_refused (record { row = answers.0; no_fault = answers.1; printed = printed.1 }))
+    (always call.source.bytes _ (inr (inr printed.0)))
+    (λ _. answers.1)
 
 -- the answer of what was read is right by what the source had
 pub answer_from : (words : List (List ℕ)) (source source_after : End) (all : List ℕ) (answer : Answer) → IsRow words → IsWholeRead source.bytes source_after.bytes all → source_after.faults ≡ source.faults

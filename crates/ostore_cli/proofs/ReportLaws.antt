@@ -19,7 +19,7 @@ use Rattle.ostore_job_text.specs.Report.{report}
 use Rattle.ostore_job_text.specs.Results.{script_of, committed_of, EndedAtOnce}
 use Rattle.ostore_job_text.specs.Spelling.{Says, IsBuiltTxn, AreBuiltTypes, AreBuiltClients}
 use Rattle.ostore_cli.specs.Promise.{IsReportOf, plain_tail}
-use Rattle.ostore_cli.specs.Running.{Outcomes, with_before, outcomes_from, RunsJob, CannotRun, count_txns}
+use Rattle.ostore_cli.specs.inside.Outcomes.{Outcomes, with_before, outcomes_from, RunsJob, CannotRun, count_txns}
 use Rattle.ostore_cli.proofs.PlainBuilt.{HasIntMembers, IsSome-and_then, IsSome-map, transaction_is_some}
 use Rattle.ostore_cli.proofs.HistoryLaws.{runs_to, length_runs, legal, everyone, at_once, count_commits, legal_none, everyone_none}
 

@@ -3,8 +3,8 @@ use Rattle.std.proofs.Common.{◌≡◌, ℕ, ◌+◌, ◌-◌, ◌≤◌, List,
 use Rattle.std.proofs.lemmas.List.{take_all, drop_all, length-drop}
 use Rattle.ostore_base.specs.Streams.{appended}
 use Rattle.ostore_base.proofs.StreamLemmas.{appended-more}
-use Rattle.ostore_cli.specs.Streams.{HasRead, IsAtEnd, IsWholeRead}
-use Rattle.ostore_cli.specs.declared.streams.reading.TheConstants.{LONGEST_READ}
+use Rattle.ostore_cli.specs.Streams.{longest_read, IsWholeRead}
+use Rattle.ostore_cli.specs.inside.HasRead.{HasRead, IsAtEnd}
 
 -- all of a text whose front was read, and of which nothing is left
 ends_there : (bytes all : List ℕ) → all ≡ take (length all) bytes → drop (length all) bytes ≡ [] → (n : ℕ) → length all ≤ n → (drop n bytes ≡ []) × (all ≡ take n bytes)
@@ -13,15 +13,15 @@ ends_there bytes all front none n long =
     (drop_all n bytes (omega arith), front ∙ take_all (length all) bytes short ∙ sym (take_all n bytes (omega arith)))
 
 -- reading has come to the end
-pub whole_at_end : (first now : Option (List ℕ)) (all : List ℕ) → HasRead first now all → IsAtEnd now → length all ≤ LONGEST_READ → IsWholeRead first now all
+pub whole_at_end : (first now : Option (List ℕ)) (all : List ℕ) → HasRead first now all → IsAtEnd now → length all ≤ longest_read → IsWholeRead first now all
 whole_at_end None now all read end few = read
 whole_at_end (Some bytes) now all read end few =
     let none : drop (length all) bytes ≡ [] = subst IsAtEnd read.0 end in
-    let at_end = ends_there bytes all read.1 none LONGEST_READ few in
+    let at_end = ends_there bytes all read.1 none longest_read few in
     (read.0 ∙ ap (λ (left : List ℕ). Some left) (none ∙ sym at_end.0), at_end.1)
 
 -- reading has come to the most that is read
-pub whole_at_limit : (first now : Option (List ℕ)) (all : List ℕ) → HasRead first now all → length all ≡ LONGEST_READ → IsWholeRead first now all
+pub whole_at_limit : (first now : Option (List ℕ)) (all : List ℕ) → HasRead first now all → length all ≡ longest_read → IsWholeRead first now all
 whole_at_limit None now all read full = read
 whole_at_limit (Some bytes) now all read full =
     (subst (λ (n : ℕ). now ≡ Some (drop n bytes)) full read.0, subst (λ (n : ℕ). all ≡ take n bytes) full read.1)

@@ -1,6 +1,7 @@
-pub mod Streams
+-- what the contracts of the public calls rest on
 pub mod Commands
+pub mod Streams
 pub mod Promise
-pub mod Answers
-pub mod Running
+-- what only ties private code
+pub mod inside
 pub mod Plain

@@ -1,5 +1,4 @@
--- What a top call promises, by the words that it was given, and by what its source and its sink tell
--- before the call and after it.
+-- What a top call promises: at each status what was the case, what was read and what was printed.
 use Rattle.std.specs.Prelude.{◌≡◌, ◌≢◌, ◌⊎◌, ◌↔◌, ℕ, List, length, map, codes, Option, Some, None, IfSome}
 use Rattle.std.specs.List.{AllByRecursion}
 use Rattle.ostore_base.specs.Faults.{Rose}
@@ -16,15 +15,38 @@ use Rattle.ostore_job_text.specs.Spelling.{Says, IsRefused}
 use Rattle.ostore_cli.specs.Commands.{IsRow}
 use Rattle.ostore_cli.specs.Streams.{IsWholeRead, AppendsFront}
 
--- a source or a sink: the bytes that it has left or that it holds, where it tells, and its count of faults
+-- a source or a sink: the bytes that it has left or that it holds, where it tells, and its count of
+-- faults
 pub record End : Type 0 where
   pub bytes : Option (List ℕ)
   pub faults : ℕ
 
-abbrev pub end_of : Option (List ℕ) → ℕ → End
-end_of bytes faults = record { bytes = bytes; faults = faults }
+-- what a source or a sink tells of itself
+abbrev pub end_of : {T : Type 0} → (T → Option (List ℕ)) → (T → ℕ) → T → End
+end_of bytes faults end = record { bytes = bytes end; faults = faults end }
 
--- ---- the report of a run
+-- a call: the words that it was given, and its source and its sink before and after
+pub record Call : Type 0 where
+  pub words : List (List ℕ)
+  pub source : End
+  pub source_after : End
+  pub sink : End
+  pub sink_after : End
+
+-- ---- what was read
+
+-- nothing was read
+pub record IsUntouched (source source_after : End) : Type 0 where
+  pub bytes : source_after.bytes ≡ source.bytes
+  pub faults : source_after.faults ≡ source.faults
+
+-- the source was read to its end, or up to the most that is read, without a fault
+pub record IsReadThrough (source source_after : End) : Type 0 where
+  pub text : List ℕ
+  pub read : IsWholeRead source.bytes source_after.bytes text
+  pub no_fault : source_after.faults ≡ source.faults
+
+-- ---- the report of a run, and the line of a refusal
 
 -- the last lines of the report of so many commits, without a disk
 abbrev pub plain_tail : ℕ → Tail
@@ -39,9 +61,11 @@ pub record IsReportOf (text output : List ℕ) : Type 0 where
   pub last : Graph
   pub history : IsLegalHistory (script_of input) 0 empty_graph (committed_of results) last
   pub everyone : EveryoneStands (script_of input) (committed_of results)
-  pub one_each : map (λ outcomes. length outcomes) results ≡ map (λ client. length client.txns) input.job.clients
+  pub one_each : map (λ outcomes. length outcomes) results
+      ≡ map (λ client. length client.txns) input.job.clients
   pub at_once : AllByRecursion (AllByRecursion EndedAtOnce) results
-  pub printed : output ≡ report input.job results (plain_tail (length (updates (committed_of results))))
+  pub printed : output
+      ≡ report input.job results (plain_tail (length (updates (committed_of results))))
 
 -- the source had this text, where it tells
 abbrev pub HasText : Option (List ℕ) → List ℕ → Type 0
@@ -77,55 +101,69 @@ pub record PrintsFront (output : List ℕ) (sink sink_after : End) : Type 0 wher
 abbrev pub PrintsLine : List ℕ → End → End → Type 0
 PrintsLine line sink sink_after = Prints line sink sink_after ⊎ PrintsFront line sink sink_after
 
--- the report was printed whole
-pub record PrintsReport (source sink sink_after : End) : Type 0 where
-  pub output : List ℕ
-  pub report : IsReportFrom source output
-  pub printed : Prints output sink sink_after
-
--- a front of the report was printed, and then a write failed
-pub record PrintsReportFront (source sink sink_after : End) : Type 0 where
-  pub output : List ℕ
-  pub report : IsReportFrom source output
-  pub printed : PrintsFront output sink sink_after
-
--- the line of the refusal was printed, as far as the sink took it
-pub record PrintsRefusal (source sink sink_after : End) : Type 0 where
-  pub line : List ℕ
-  pub refusal : IsRefusalOf source line
-  pub printed : PrintsLine line sink sink_after
-
 -- ---- the statuses
 
-abbrev pub IsStatus : ℕ → Type 0
-IsStatus status = (status ≡ 0) ⊎ (status ≡ 2) ⊎ (status ≡ 3) ⊎ (status ≡ 6) ⊎ (status ≡ 7) ⊎ (status ≡ 8)
+-- 0: the report was printed, and nothing failed
+pub record AtReport (call : Call) : Type 0 where
+  pub row : IsRow call.words
+  pub read : IsReadThrough call.source call.source_after
+  pub output : List ℕ
+  pub report : IsReportFrom call.source output
+  pub printed : Prints output call.sink call.sink_after
 
--- what the words refused leave of the source
-pub record IsUntouched (source source_after : End) : Type 0 where
-  pub bytes : source_after.bytes ≡ source.bytes
-  pub faults : source_after.faults ≡ source.faults
+-- 2: the words are no row of the command table
+pub record AtWordsRefused (call : Call) : Type 0 where
+  pub no_row : IsRow call.words → ⊥
+  pub unread : IsUntouched call.source call.source_after
+  pub printed : PrintsLine (codes "words refused\n") call.sink call.sink_after
 
--- Everything that a top call promises of its status, its source and its sink.
---   0  the report was printed, and nothing failed      2  the words are no row of the command table
---   3  the text spells no input that is built          6  the source failed
---   7  the sink failed, in the report                  8  memory was wanted
-pub record KeepsPromise (words : List (List ℕ)) (source source_after sink sink_after : End) (status : ℕ) : Type 0 where
-  pub statuses : IsStatus status
-  pub report : status ≡ 0 → PrintsReport source sink sink_after
-  -- exactly by the words, and then no read was made
-  pub words_only : (status ≡ 2) ↔ (IsRow words → ⊥)
-  pub words_line : status ≡ 2 → PrintsLine (codes "words refused\n") sink sink_after
-  pub words_read : status ≡ 2 → IsUntouched source source_after
-  -- exactly by the text, where the source tells and doesn't fail, and memory is there
-  pub text : status ≡ 3 → IfSome source.bytes IsRefused
-  pub text_only : IsRow words → IfSome source.bytes (λ text. IsRefused text → (status ≡ 3) ⊎ (status ≡ 6) ⊎ (status ≡ 8))
-  pub text_line : status ≡ 3 → PrintsRefusal source sink sink_after
-  -- exactly where the source's count of faults rose
-  pub source_fault : status ≡ 6 → Rose source.faults source_after.faults
-  pub source_only : status ≢ 6 → source_after.faults ≡ source.faults
-  pub source_line : status ≡ 6 → PrintsLine (codes "source fault\n") sink sink_after
-  -- only where the sink's count of faults rose
-  pub sink_fault : status ≡ 7 → PrintsReportFront source sink sink_after
-  pub memory_line : status ≡ 8 → PrintsLine (codes "out of memory\n") sink sink_after
-  -- the source was read to its end, or up to the most that is read
-  pub read : (status ≡ 0) ⊎ (status ≡ 3) ⊎ (status ≡ 7) → (all : List ℕ) × IsWholeRead source.bytes source_after.bytes all
+-- 3: the text spells no input that is built
+pub record AtTextRefused (call : Call) : Type 0 where
+  pub row : IsRow call.words
+  pub read : IsReadThrough call.source call.source_after
+  pub line : List ℕ
+  pub refusal : IsRefusalOf call.source line
+  pub printed : PrintsLine line call.sink call.sink_after
+
+-- 6: a read failed
+pub record AtSourceFault (call : Call) : Type 0 where
+  pub row : IsRow call.words
+  pub fault : Rose call.source.faults call.source_after.faults
+  pub printed : PrintsLine (codes "source fault\n") call.sink call.sink_after
+
+-- 7: a write of the report failed
+pub record AtSinkFault (call : Call) : Type 0 where
+  pub row : IsRow call.words
+  pub read : IsReadThrough call.source call.source_after
+  pub output : List ℕ
+  pub report : IsReportFrom call.source output
+  pub printed : PrintsFront output call.sink call.sink_after
+
+-- 8: memory was wanted and refused
+pub record AtOutOfMemory (call : Call) : Type 0 where
+  pub row : IsRow call.words
+  pub no_fault : call.source_after.faults ≡ call.source.faults
+  pub printed : PrintsLine (codes "out of memory\n") call.sink call.sink_after
+
+-- how a call ends, by its status
+pub data EndsAt (call : Call) : ℕ → Type 0 where
+  reported : AtReport call → EndsAt call 0
+  words_refused : AtWordsRefused call → EndsAt call 2
+  text_refused : AtTextRefused call → EndsAt call 3
+  source_failed : AtSourceFault call → EndsAt call 6
+  sink_failed : AtSinkFault call → EndsAt call 7
+  memory_refused : AtOutOfMemory call → EndsAt call 8
+
+-- a text that is refused is answered so, unless the source fails first or memory is wanted
+abbrev pub IsRefusalStatus : ℕ → Type 0
+IsRefusalStatus status = (status ≡ 3) ⊎ (status ≡ 6) ⊎ (status ≡ 8)
+
+-- Everything that a top call promises: how it ends, and that three of the statuses come exactly
+-- where they should: 2 by the words, 3 by the text, where the source tells it, and 6 by the source's
+-- count of faults.
+pub record KeepsPromise (call : Call) (status : ℕ) : Type 0 where
+  pub ends : EndsAt call status
+  pub by_words : (status ≡ 2) ↔ (IsRow call.words → ⊥)
+  pub by_text : IsRow call.words
+      → IfSome call.source.bytes (λ text. IsRefused text → IsRefusalStatus status)
+  pub by_source : status ≢ 6 → call.source_after.faults ≡ call.source.faults

@@ -2,7 +2,7 @@
 
 ghost use Rattle.std.specs.Prelude.{◌≡◌};
 ghost use Rattle.ostore_cli.specs.Promise.{end_of};
-ghost use Rattle.ostore_cli.specs.Answers.{IsAnswerTo, IsTextAnswer, IsFaultAnswer, IsPrintOf, IsReportPrint, IsLinePrint};
+ghost use Rattle.ostore_cli.specs.inside.Answer.{IsAnswerTo, IsTextAnswer, IsFaultAnswer, IsPrintOf, IsReportPrint, IsLinePrint};
 
 use crate::streams::{InputFault, read_text, write_whole};
 use crate::trying::try_text;
@@ -26,7 +26,8 @@ pub enum Answer {
 
 /// What the words ask for, of the text that the source has.
 pub(crate) fn answer_to<S: Source>(alloc: Global, words: &Words, source: &mut S) -> Answer
-    ensures { IsAnswerTo words.now (end_of (S.left source.old) (S.faults source.old)) (end_of (S.left source.new) (S.faults source.new)) result }
+    ensures { IsAnswerTo words.now
+        (end_of S.left S.faults source.old) (end_of S.left S.faults source.new) result }
 {
     if !words.are_row() {
         return Answer::WordsRefused;
@@ -34,7 +35,7 @@ pub(crate) fn answer_to<S: Source>(alloc: Global, words: &Words, source: &mut S)
     match read_text(alloc, source) {
         Err(InputFault::SourceFailed) => Answer::SourceFault,
         Err(InputFault::OutOfMemory) => Answer::OutOfMemory,
-        Ok(text) => answer_text(alloc, &text),
+        Ok(text) => answer_text(alloc, text.bytes()),
     }
 }
 
@@ -63,7 +64,8 @@ fn answer_fault(alloc: Global, fault: &SchemaFault) -> Answer
 /// Prints an answer, and gives its status. Only a report that can't be written has another status
 /// for that.
 pub(crate) fn print_answer<K: Sink>(sink: &mut K, answer: Answer) -> u8
-    ensures { IsPrintOf answer (end_of (K.written sink.old) (K.faults sink.old)) (end_of (K.written sink.new) (K.faults sink.new)) result }
+    ensures { IsPrintOf answer
+        (end_of K.written K.faults sink.old) (end_of K.written K.faults sink.new) result }
 {
     match answer {
         Answer::Report(report) => print_report_text(sink, report.bytes()),
@@ -77,7 +79,8 @@ pub(crate) fn print_answer<K: Sink>(sink: &mut K, answer: Answer) -> u8
 
 // Status 0 where the whole report was printed, else 7.
 fn print_report_text<K: Sink>(sink: &mut K, report: &[u8]) -> u8
-    ensures { IsReportPrint report.now (end_of (K.written sink.old) (K.faults sink.old)) (end_of (K.written sink.new) (K.faults sink.new)) result }
+    ensures { IsReportPrint report.now
+        (end_of K.written K.faults sink.old) (end_of K.written K.faults sink.new) result }
 {
     match write_whole(sink, report) {
         Ok(()) => 0,
@@ -87,7 +90,8 @@ fn print_report_text<K: Sink>(sink: &mut K, report: &[u8]) -> u8
 
 // The status of the line, whether or not the sink takes it.
 fn print_line<K: Sink>(sink: &mut K, line: &[u8], status: u8) -> u8
-    ensures { IsLinePrint line.now status (end_of (K.written sink.old) (K.faults sink.old)) (end_of (K.written sink.new) (K.faults sink.new)) result }
+    ensures { IsLinePrint line.now status
+        (end_of K.written K.faults sink.old) (end_of K.written K.faults sink.new) result }
 {
     match write_whole(sink, line) {
         Ok(()) => status,

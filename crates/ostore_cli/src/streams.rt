@@ -3,5 +3,5 @@
 mod reading;
 mod writing;
 
-pub(crate) use reading::{InputFault, LONGEST_READ, read_text};
+pub(crate) use reading::{InputFault, read_text};
 pub(crate) use writing::write_whole;

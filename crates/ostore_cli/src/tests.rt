@@ -1,5 +1,6 @@
 //! Runs of the top calls over the outside in memory.
 
+mod ample;
 mod runs;
 mod slow;
 
@@ -74,10 +75,11 @@ fn schemas_at_fault(rt: HostRuntime) -> Result<(), Fail> {
 #[test]
 fn refused_words(rt: HostRuntime) -> Result<(), Fail> {
     for words in [&[][..], &["run"], &["try", "try"], &["tries"]] {
-        let (status, printed) = run_words(rt.alloc(), words, FIRST)?;
-        assert_eq!(rt; status, 2);
-        assert!(rt; printed.bytes() == b"words refused\n".as_slice());
-        assert!(rt; printed.calls() == 1);
+        let ran = run_words(rt.alloc(), words, FIRST)?;
+        assert_eq!(rt; ran.status, 2);
+        assert!(rt; ran.sink.bytes() == b"words refused\n".as_slice());
+        assert_eq!(rt; ran.sink.calls(), 1);
+        assert_eq!(rt; ran.source.calls(), 0);
     }
     Ok(())
 }
@@ -117,6 +119,7 @@ fn each_read_fails_in_turn(rt: HostRuntime) -> Result<(), Fail> {
         assert_eq!(rt; run_over(alloc, &mut source, &mut sink)?, 6);
         assert!(rt; sink.bytes() == b"source fault\n".as_slice());
         assert_eq!(rt; source.faults(), 1);
+        assert_eq!(rt; source.calls(), failing);
     }
     Ok(())
 }
@@ -127,14 +130,17 @@ fn each_write_fails_in_turn(rt: HostRuntime) -> Result<(), Fail> {
     let mut source = SlowSource::new(alloc, TWICE, 0)?;
     let mut whole = SlowSink::new(alloc, 0)?;
     assert_eq!(rt; run_over(alloc, &mut source, &mut whole)?, 0);
-    let (_, report) = run_words(alloc, &["try"], TWICE)?;
+    assert_eq!(rt; source.calls(), TWICE.len() as u64 + 1);
+    let report = run_words(alloc, &["try"], TWICE)?.sink;
     assert!(rt; whole.bytes() == report.bytes());
     let writes = report.bytes().len() as u64;
+    assert_eq!(rt; whole.calls(), writes);
     for failing in 1..=writes {
         let mut source = SlowSource::new(alloc, TWICE, 0)?;
         let mut sink = SlowSink::new(alloc, failing)?;
         assert_eq!(rt; run_over(alloc, &mut source, &mut sink)?, 7);
         assert_eq!(rt; sink.bytes().len() as u64, failing - 1);
+        assert_eq!(rt; sink.calls(), failing);
         assert!(rt; report.bytes().starts_with(sink.bytes()));
     }
     Ok(())
@@ -143,7 +149,7 @@ fn each_write_fails_in_turn(rt: HostRuntime) -> Result<(), Fail> {
 #[test]
 fn the_longest_text(rt: HostRuntime) -> Result<(), Fail> {
     let alloc = rt.alloc();
-    for (length, status) in [(4194304usize, 0), (4194305, 3)] {
+    for (length, status) in [(4194304usize, 0), (4194305, 3), (4194400, 3)] {
         let mut text = FIRST.as_bytes().to_vec(alloc)?;
         text.push(b'#')?;
         for _ in text.len()..length {
@@ -152,6 +158,8 @@ fn the_longest_text(rt: HostRuntime) -> Result<(), Fail> {
         let mut source = ostore_base::MemSource::new(text, Vec::new(alloc));
         let mut sink = SlowSink::new(alloc, 0)?;
         assert_eq!(rt; run_over(alloc, &mut source, &mut sink)?, status);
+        // 512 whole pieces, and the read of one byte that tells the two lengths apart
+        assert_eq!(rt; source.calls(), 513);
     }
     Ok(())
 }

@@ -35,8 +35,13 @@ pub fn ostore<
     _gate: &G,
 ) -> Outcome<D>
     ensures disk { result.disk ≡ disk }
-    ensures promise { KeepsPromise words.now (end_of (S.left source.old) (S.faults source.old)) (end_of (S.left source.new) (S.faults source.new))
-        (end_of (K.written sink.old) (K.faults sink.old)) (end_of (K.written sink.new) (K.faults sink.new)) result.status }
+    ensures promise { KeepsPromise (record {
+      words = words.now;
+      source = end_of S.left S.faults source.old;
+      source_after = end_of S.left S.faults source.new;
+      sink = end_of K.written K.faults sink.old;
+      sink_after = end_of K.written K.faults sink.new;
+    }) result.status }
 {
     ostore_turns(alloc, words, source, sink, disk, mapper)
 }
@@ -51,8 +56,13 @@ pub fn ostore_turns<S: Source, K: Sink, D: Disk, M: Mapper>(
     _mapper: &M,
 ) -> Outcome<D>
     ensures disk { result.disk ≡ disk }
-    ensures promise { KeepsPromise words.now (end_of (S.left source.old) (S.faults source.old)) (end_of (S.left source.new) (S.faults source.new))
-        (end_of (K.written sink.old) (K.faults sink.old)) (end_of (K.written sink.new) (K.faults sink.new)) result.status }
+    ensures promise { KeepsPromise (record {
+      words = words.now;
+      source = end_of S.left S.faults source.old;
+      source_after = end_of S.left S.faults source.new;
+      sink = end_of K.written K.faults sink.old;
+      sink_after = end_of K.written K.faults sink.new;
+    }) result.status }
 {
     let answer = answer_to(alloc, words, source);
     let status = print_answer(sink, answer);

@@ -16,8 +16,10 @@ use std::alloc::Global;
 /// Runs what a text asks for on a fresh database in memory, and gives the report.
 pub(crate) fn try_text(alloc: Global, text: &[u8]) -> Result<Text, TryFault>
     ensures report { IfOk result (λ report. IsReportOf text.now report) }
-    ensures refused { IsErrOf result TryFault.Refused → IsRefused text.now × (schema_fault text.now ≡ None) }
-    ensures schema { (fault : SchemaFault) → IsErrOf result (TryFault.Schema fault) → IsRefused text.now × (schema_fault text.now ≡ Some fault) }
+    ensures refused { IsErrOf result TryFault.Refused
+        → IsRefused text.now × (schema_fault text.now ≡ None) }
+    ensures schema { (fault : SchemaFault) → IsErrOf result (TryFault.Schema fault)
+        → IsRefused text.now × (schema_fault text.now ≡ Some fault) }
 {
     let input = read_try_input(alloc, text)?;
     report_on(alloc, &input)
@@ -25,7 +27,8 @@ pub(crate) fn try_text(alloc: Global, text: &[u8]) -> Result<Text, TryFault>
 
 // Runs an input, and prints what became of it. An input that a text says can be run.
 fn report_on(alloc: Global, input: &TryInput) -> Result<Text, TryFault>
-    ensures report { IfOk result (λ report. (text : List ℕ) → Says text input.now → IsReportOf text report) }
+    ensures report { IfOk result
+        (λ report. (text : List ℕ) → Says text input.now → IsReportOf text report) }
     ensures refused { IsErrOf result TryFault.Refused → (text : List ℕ) → Says text input.now → ⊥ }
     ensures schema { (fault : SchemaFault) → IsErrOf result (TryFault.Schema fault) → ⊥ }
 {

@@ -1,13 +1,15 @@
-ghost use Rattle.std.specs.Prelude.{◌≡◌, ℕ, ◌+◌, ◌<◌, ◌≤◌, List, length, vec_len, Option, IfOk};
-ghost use Rattle.ostore_cli.specs.Streams.{HasRead, IsWholeRead, HasInputCause, IsAtEnd};
-ghost use Rattle.ostore_cli.specs.declared.streams.reading.InputFault.TheVariants.{OutOfMemory};
+ghost use Rattle.std.specs.Prelude.{◌≡◌, ℕ, ◌+◌, ◌<◌, ◌≤◌, true, false, List, length, Option, IfOk, OnOk};
+ghost use Rattle.ostore_cli.specs.Streams.{IsWholeRead};
+ghost use Rattle.ostore_cli.specs.inside.HasRead.{HasRead, IsAtEnd};
+ghost use Rattle.ostore_cli.specs.inside.InputCause.{HasInputCause};
+ghost use Rattle.ostore_cli.specs.declared.streams.reading.InputFault.TheVariants.{OutOfMemory as NoMemory};
 
-use ostore_base::Source;
+use ostore_base::{OutOfMemory, Source, Text};
 use ostore_job_text::LONGEST_TEXT;
-use std::alloc::{AllocError, Global};
+use std::alloc::Global;
 
 /// How many bytes of a source are read at most: one more than the longest text.
-pub const LONGEST_READ: usize = LONGEST_TEXT + 1;
+const LONGEST_READ: usize = LONGEST_TEXT + 1;
 
 /// How many bytes are asked for at a time.
 const PIECE: usize = 8192;
@@ -20,46 +22,65 @@ pub enum InputFault {
     OutOfMemory,
 }
 
-impl From<AllocError> for InputFault {
-    ghost from_gives = { λ _ e. e ≡ OutOfMemory };
+impl From<OutOfMemory> for InputFault {
+    ghost from_gives = { λ _ e. e ≡ NoMemory };
 
-    fn from(_refused: AllocError) -> InputFault {
+    fn from(_refused: OutOfMemory) -> InputFault {
         InputFault::OutOfMemory
     }
 }
 
-// One read, into the buffer and from there to the end of all that was read.
+/// What was read of a source so far.
+#[derive(Drop)]
+struct Reading {
+    text: Text,
+    /// Whether a read has met the end. No read may follow it: at a terminal it would wait again.
+    ended: bool,
+}
+
+// One read, into the buffer and from there to the end of what was read.
 fn read_piece<S: Source>(
     source: &mut S,
     buffer: &mut [u8],
-    all: &mut Vec<u8>,
-) -> Result<usize, InputFault>
+    reading: &mut Reading,
+) -> Result<(), InputFault>
+    requires unended { reading.old.ended ≡ false }
+    requires room { 0 < length buffer.old }
     ensures cause { HasInputCause (S.faults source.old) (S.faults source.new) result }
-    ensures count { IfOk result (λ n. (n ≤ length buffer.old) × (vec_len all.new ≡ vec_len all.old + n)) }
-    ensures read { (first : Option (List ℕ)) → HasRead first (S.left source.old) all.old.items
-        → IfOk result (λ n. HasRead first (S.left source.new) all.new.items) }
-    ensures end { IfOk result (λ n. n ≡ 0 → 0 < length buffer.old → IsAtEnd (S.left source.new)) }
+    ensures read { (first : Option (List ℕ)) → HasRead first (S.left source.old) reading.old.text
+        → OnOk result (HasRead first (S.left source.new) reading.new.text) }
+    ensures bound { OnOk result
+        (length reading.new.text ≤ length reading.old.text + length buffer.old) }
+    ensures more { OnOk result (reading.new.ended ≡ false
+        → length reading.old.text < length reading.new.text) }
+    ensures end { OnOk result (reading.new.ended ≡ true → IsAtEnd (S.left source.new)) }
 {
     let count = match source.read(buffer) {
         Ok(count) => count,
         Err(_) => return Err(InputFault::SourceFailed),
     };
-    all.extend_from_slice(&buffer[..count])?;
-    Ok(count)
+    reading.text.push_bytes(&buffer[..count])?;
+    reading.ended = count == 0;
+    Ok(())
 }
 
-/// Reads a source to its end, or up to one byte more than the longest text.
-pub(crate) fn read_text<S: Source>(alloc: Global, source: &mut S) -> Result<Vec<u8>, InputFault>
+/// Reads a source to its end, or up to one byte more than the longest text. Nothing is read behind
+/// the end.
+pub(crate) fn read_text<S: Source>(alloc: Global, source: &mut S) -> Result<Text, InputFault>
     ensures cause { HasInputCause (S.faults source.old) (S.faults source.new) result }
-    ensures read { IfOk result (λ all. IsWholeRead (S.left source.old) (S.left source.new) all.items) }
+    ensures read { IfOk result (λ all. IsWholeRead (S.left source.old) (S.left source.new) all) }
 {
-    let mut all = Vec::new(alloc);
+    let mut reading = Reading {
+        text: Text::new(alloc),
+        ended: false,
+    };
     let mut buffer = [0u8; PIECE];
-    while all.len() < LONGEST_READ {
-        let room = PIECE.min(LONGEST_READ - all.len());
-        if read_piece(source, &mut buffer[..room], &mut all)? == 0 {
-            return Ok(all);
+    while reading.text.bytes().len() < LONGEST_READ {
+        let room = PIECE.min(LONGEST_READ - reading.text.bytes().len());
+        read_piece(source, &mut buffer[..room], &mut reading)?;
+        if reading.ended {
+            return Ok(reading.text);
         }
     }
-    Ok(all)
+    Ok(reading.text)
 }

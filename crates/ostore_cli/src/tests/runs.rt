@@ -14,9 +14,22 @@ pub(super) const FIRST: &str =
 pub(super) const TWICE: &str =
     "# parts\n\n type  Part\nid int\nsize int\njob\nclient a\nbegin\nnew $p Part 1\nnew $q Part 1\ncommit\n  # more\nbegin\nnew $r Part 1\nnew $s Part 2 \nget $p.id\ncommit\nbegin\ncommit";
 
+/// What a run over the outside in memory came to.
+#[derive(Drop)]
+pub(super) struct MemRun {
+    pub(super) status: u8,
+    pub(super) source: MemSource,
+    pub(super) sink: MemSink,
+}
+
 /// A source in memory that has a text.
 pub(super) fn source_of(alloc: Global, text: &str) -> Result<MemSource, Fail> {
     Ok(MemSource::new(text.as_bytes().to_vec(alloc)?, Vec::new(alloc)))
+}
+
+/// How many reads of up to 8,192 bytes a text in memory takes, with the one that meets its end.
+fn reads_of(text: &str) -> u64 {
+    text.len().div_ceil(8192) as u64 + 1
 }
 
 /// Runs `try` over a source and a sink, and gives the status.
@@ -31,8 +44,8 @@ pub(super) fn run_over<S: Source, K: Sink>(
     Ok(ostore_turns(alloc, &words, source, sink, disk, &Low).status)
 }
 
-/// Runs words over a text, and gives the status and what was printed.
-pub(super) fn run_words(alloc: Global, words: &[&str], text: &str) -> Result<(u8, MemSink), Fail> {
+/// Runs words over a text.
+pub(super) fn run_words(alloc: Global, words: &[&str], text: &str) -> Result<MemRun, Fail> {
     let mut line = Words::new(alloc);
     for word in words {
         line.push(word)?;
@@ -40,11 +53,16 @@ pub(super) fn run_words(alloc: Global, words: &[&str], text: &str) -> Result<(u8
     let mut source = source_of(alloc, text)?;
     let mut sink = MemSink::new(alloc, Vec::new(alloc));
     let disk = MemDisk::new(Vec::new(alloc), Vec::new(alloc));
-    let outcome = ostore_turns(alloc, &line, &mut source, &mut sink, disk, &Low);
-    Ok((outcome.status, sink))
+    let status = ostore_turns(alloc, &line, &mut source, &mut sink, disk, &Low).status;
+    Ok(MemRun {
+        status,
+        source,
+        sink,
+    })
 }
 
-/// Runs `try` on a text, which must give this status and print this.
+/// Runs `try` on a text, which must give this status and print this in one write, and must read
+/// the text once and its end once.
 pub(super) fn expect_run(
     rt: &impl Abort,
     alloc: Global,
@@ -52,8 +70,10 @@ pub(super) fn expect_run(
     status: u8,
     printed: &str,
 ) -> Result<(), Fail> {
-    let (found, sink) = run_words(alloc, &["try"], text)?;
-    assert!(rt; sink.bytes() == printed.as_bytes(), "{text}");
-    assert_eq!(rt; found, status, "{text}");
+    let ran = run_words(alloc, &["try"], text)?;
+    assert!(rt; ran.sink.bytes() == printed.as_bytes(), "{text}");
+    assert_eq!(rt; ran.status, status, "{text}");
+    assert_eq!(rt; ran.source.calls(), reads_of(text), "{text}");
+    assert_eq!(rt; ran.sink.calls(), 1, "{text}");
     Ok(())
 }

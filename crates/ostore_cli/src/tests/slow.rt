@@ -23,6 +23,10 @@ impl SlowSource {
     pub(super) fn faults(&self) -> u64 {
         self.inner.faults()
     }
+
+    pub(super) fn calls(&self) -> u64 {
+        self.inner.calls()
+    }
 }
 
 impl Source for SlowSource {
@@ -51,6 +55,10 @@ impl SlowSink {
 
     pub(super) fn bytes(&self) -> &[u8] {
         self.inner.bytes()
+    }
+
+    pub(super) fn calls(&self) -> u64 {
+        self.inner.calls()
     }
 }
 

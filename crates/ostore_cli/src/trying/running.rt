@@ -2,10 +2,9 @@
 
 ghost use Rattle.std.specs.Prelude.{◌≡◌, ℕ, Some, None, IfOk, IsErrOf};
 ghost use Rattle.ostore_graph_model.specs.Graph.{Graph, empty_graph};
-ghost use Rattle.ostore_cli.specs.Running.{Outcomes, outcomes_from, RunsJob, CannotRun, count_txns};
+ghost use Rattle.ostore_cli.specs.inside.Outcomes.{Outcomes, outcomes_from, RunsJob, CannotRun, count_txns};
 
 use crate::plain::{PlainGraph, Stop, run_txn};
-use ostore_base::ListOf;
 use ostore_graph_model::Txn;
 use ostore_job_text::{ClientResults, JobClient, Results, TxnResult};
 use ostore_schema_layout::Schema;
@@ -44,19 +43,22 @@ pub(crate) fn run_job(alloc: Global, schema: &Schema, clients: &[JobClient]) -> 
 
 // Runs a client's transactions on an empty graph. Each commits at its first try.
 fn run_client(alloc: Global, schema: &Schema, txns: &[Txn]) -> Result<ClientResults, Stop>
-    ensures ok { IfOk result (λ results. (last : Graph) × (outcomes_from schema.now 0 empty_graph txns.now ≡ Some (record { results = results; last = last }))) }
-    ensures not_built { IsErrOf result Stop.NotBuilt → outcomes_from schema.now 0 empty_graph txns.now ≡ None }
+    ensures ok { IfOk result (λ results. (last : Graph)
+        × (outcomes_from schema.now 0 empty_graph txns.now
+        ≡ Some (record { results = results; last = last }))) }
+    ensures not_built { IsErrOf result Stop.NotBuilt
+        → outcomes_from schema.now 0 empty_graph txns.now ≡ None }
 {
     let mut graph = PlainGraph::new(alloc);
-    let mut results = Vec::new(alloc);
+    let mut results = ClientResults::new(alloc);
     for txn in txns {
         let replies = run_txn(alloc, schema, &mut graph, txn)?;
-        let number = results.len() as u64 + 1;
+        let number = results.items().len() as u64 + 1;
         results.push(TxnResult::Commit {
             number,
             tries: 1,
             replies,
         })?;
     }
-    Ok(ListOf::from_vec(results))
+    Ok(results)
 }

@@ -1,6 +1,6 @@
 use Rattle.std.proofs.Common.{List, ap, subst, ◌∙◌}
 use Rattle.ostore_job_text.specs.declared.job.JobClient.{JobClient}
-use Rattle.ostore_cli.specs.Running.{RunsJob, CannotRun, count_txns}
+use Rattle.ostore_cli.specs.inside.Outcomes.{RunsJob, CannotRun, count_txns}
 use Rattle.ostore_cli.proofs.ReportLaws.{report_of, can_run}
 use Rattle.ostore_cli.proofs.trying.report_on.Goals as goal
 

@@ -5,25 +5,24 @@ use Rattle.ostore_schema_layout.specs.declared.fault.SchemaFault.{SchemaFault as
 use Rattle.ostore_job_text.specs.FaultLine.{fault_line, refusal_line}
 use Rattle.ostore_job_text.specs.Spelling.{IsRefused}
 use Rattle.ostore_cli.specs.Commands.{IsRow}
-use Rattle.ostore_cli.specs.Streams.{IsWholeRead}
-use Rattle.ostore_cli.specs.Promise.{End, IsReportOf, IsReportFrom, IsRefusalOf, IsUntouched, Prints, PrintsFront, PrintsLine}
+use Rattle.ostore_cli.specs.Promise.{End, IsReportOf, IsReportFrom, IsRefusalOf, IsReadThrough, IsUntouched, Prints, PrintsFront, PrintsLine}
 use Rattle.ostore_cli.specs.declared.answers.Answer.{Answer}
 use Rattle.ostore_cli.specs.declared.answers.Answer.TheVariants.{Report, WordsRefused, TextRefused, SchemaFault, SourceFault, OutOfMemory}
 
--- the source was read to its end, or as far as it is read, without a fault
-pub record IsReadThrough (source source_after : End) : Type 0 where
-  pub text : List ℕ
-  pub read : IsWholeRead source.bytes source_after.bytes text
-  pub no_fault : source_after.faults ≡ source.faults
-
 -- the answer is right by the words and by what the source had
 abbrev pub IsAnswerTo : List (List ℕ) → End → End → Answer → Type 0
-IsAnswerTo words source source_after (Report output) = IsRow words × IsReadThrough source source_after × IsReportFrom source output
-IsAnswerTo words source source_after WordsRefused = (IsRow words → ⊥) × IsUntouched source source_after
-IsAnswerTo words source source_after TextRefused = IsRow words × IsReadThrough source source_after × IsRefusalOf source (codes "text refused\n")
-IsAnswerTo words source source_after (SchemaFault line) = IsRow words × IsReadThrough source source_after × IsRefusalOf source line
-IsAnswerTo words source source_after SourceFault = IsRow words × Rose source.faults source_after.faults
-IsAnswerTo words source source_after OutOfMemory = IsRow words × (source_after.faults ≡ source.faults)
+IsAnswerTo words source source_after (Report output) =
+    IsRow words × IsReadThrough source source_after × IsReportFrom source output
+IsAnswerTo words source source_after WordsRefused =
+    (IsRow words → ⊥) × IsUntouched source source_after
+IsAnswerTo words source source_after TextRefused =
+    IsRow words × IsReadThrough source source_after × IsRefusalOf source (codes "text refused\n")
+IsAnswerTo words source source_after (SchemaFault line) =
+    IsRow words × IsReadThrough source source_after × IsRefusalOf source line
+IsAnswerTo words source source_after SourceFault =
+    IsRow words × Rose source.faults source_after.faults
+IsAnswerTo words source source_after OutOfMemory =
+    IsRow words × (source_after.faults ≡ source.faults)
 
 -- what a text gets for an answer: its report, or its line where it is refused
 abbrev pub IsRefusedText : List ℕ → List ℕ → Type 0
@@ -47,16 +46,23 @@ IsFaultAnswer fault OutOfMemory = Unit {0}
 
 -- a report is printed whole with status 0, or fails with status 7
 abbrev pub IsReportPrint : List ℕ → End → End → ℕ → Type 0
-IsReportPrint output sink sink_after status = ((status ≡ 0) × Prints output sink sink_after) ⊎ ((status ≡ 7) × PrintsFront output sink sink_after)
+IsReportPrint output sink sink_after status =
+    ((status ≡ 0) × Prints output sink sink_after)
+    ⊎ ((status ≡ 7) × PrintsFront output sink sink_after)
 
 -- a line is printed with its own status
 abbrev pub IsLinePrint : List ℕ → ℕ → End → End → ℕ → Type 0
 IsLinePrint line own sink sink_after status = (status ≡ own) × PrintsLine line sink sink_after
 
 abbrev pub IsPrintOf : Answer → End → End → ℕ → Type 0
-IsPrintOf (Report output) sink sink_after status = IsReportPrint output sink sink_after status
-IsPrintOf WordsRefused sink sink_after status = IsLinePrint (codes "words refused\n") 2 sink sink_after status
-IsPrintOf TextRefused sink sink_after status = IsLinePrint (codes "text refused\n") 3 sink sink_after status
+IsPrintOf (Report output) sink sink_after status =
+    IsReportPrint output sink sink_after status
+IsPrintOf WordsRefused sink sink_after status =
+    IsLinePrint (codes "words refused\n") 2 sink sink_after status
+IsPrintOf TextRefused sink sink_after status =
+    IsLinePrint (codes "text refused\n") 3 sink sink_after status
 IsPrintOf (SchemaFault line) sink sink_after status = IsLinePrint line 3 sink sink_after status
-IsPrintOf SourceFault sink sink_after status = IsLinePrint (codes "source fault\n") 6 sink sink_after status
-IsPrintOf OutOfMemory sink sink_after status = IsLinePrint (codes "out of memory\n") 8 sink sink_after status
+IsPrintOf SourceFault sink sink_after status =
+    IsLinePrint (codes "source fault\n") 6 sink sink_after status
+IsPrintOf OutOfMemory sink sink_after status =
+    IsLinePrint (codes "out of memory\n") 8 sink sink_after status

@@ -1,4 +1,4 @@
--- Transactions of one client, one after the other.
+-- What became of transactions, one after the other.
 use Rattle.std.specs.Prelude.{◌≡◌, ℕ, ◌+◌, List, [], ◌∷◌, ◌++◌, length, sum_by, Option, Some, None, option_and_then}
 use Rattle.std.specs.Option.{option_map}
 use Rattle.ostore_schema_layout.specs.declared.schema.Schema.{Schema}
@@ -21,12 +21,17 @@ with_before before outcomes = record { results = before ++ outcomes.results; las
 abbrev pub outcomes_from : Schema → ℕ → Graph → List Txn → Option Outcomes
 outcomes_from schema number graph [] = Some (record { results = []; last = graph })
 outcomes_from schema number graph (txn ∷ txns) =
-    option_and_then (λ ran. option_map (with_before (Commit (number + 1) 1 ran.replies ∷ [])) (outcomes_from schema (number + 1) ran.graph txns)) (transaction schema txn graph)
+    option_and_then
+    (λ ran. option_map (with_before (Commit (number + 1) 1 ran.replies ∷ []))
+    (outcomes_from schema (number + 1) ran.graph txns))
+    (transaction schema txn graph)
 
 -- the results of a job, one list for each client: each transaction ran once, from an empty graph
 abbrev pub RunsJob : Schema → List JobClient → List (List TxnResult) → Type 0
 RunsJob schema [] results = results ≡ []
-RunsJob schema (only ∷ []) results = (outcomes : Outcomes) × (outcomes_from schema 0 empty_graph only.txns ≡ Some outcomes) × (results ≡ outcomes.results ∷ [])
+RunsJob schema (only ∷ []) results =
+    (outcomes : Outcomes) × (outcomes_from schema 0 empty_graph only.txns ≡ Some outcomes)
+    × (results ≡ outcomes.results ∷ [])
 RunsJob schema (first ∷ second ∷ others) results = ⊥
 
 -- the job is none that runs
