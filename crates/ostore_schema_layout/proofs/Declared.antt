@@ -15,7 +15,7 @@ use Rattle.ostore_schema_layout.specs.declared.declarations.MemberDeclaration.{M
 use Rattle.ostore_schema_layout.specs.declared.declarations.KindDeclaration.{KindDeclaration}
 use Rattle.ostore_schema_layout.specs.declared.declarations.KindDeclaration.TheVariants as declared
 use Rattle.ostore_schema_layout.specs.declared.declarations.InverseDeclaration.{InverseDeclaration}
-use Rattle.ostore_schema_layout.specs.Naming.{type_name, member_name}
+use Rattle.ostore_schema_layout.specs.Numbers.{type_name, member_name}
 
 -- ---- spelled
 

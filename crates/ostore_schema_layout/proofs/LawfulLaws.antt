@@ -19,7 +19,7 @@ use Rattle.ostore_schema_layout.specs.declared.schema.Inverse.{Inverse}
 use Rattle.ostore_schema_layout.specs.declared.declarations.TypeDeclaration.{TypeDeclaration}
 use Rattle.ostore_schema_layout.specs.declared.declarations.MemberDeclaration.{MemberDeclaration}
 use Rattle.ostore_schema_layout.specs.Cells.{kind_size, sizes, cell_size, IsType}
-use Rattle.ostore_schema_layout.specs.Naming.{type_name, member_at, member_name}
+use Rattle.ostore_schema_layout.specs.Numbers.{type_name, member_at, member_name}
 use Rattle.ostore_schema_layout.specs.Spelling.{kind_words, inverse_words, member_words, type_lines, schema_lines}
 use Rattle.ostore_schema_layout.specs.Lawful.{IsLawfulKind, link_target, inverse_of, IsTwoSided, IsLawfulInverse, IsLawfulMember, IsLawfulType, IsLawful}
 use Rattle.ostore_schema_layout.specs.Faults.{type_named, member_named, target_named, inverse_named, declared_size, declared_sizes, is_side_of, is_found_side_of, members_found, is_inverse, faults_of}

@@ -1,6 +1,6 @@
 -- The types and members of a lawful schema by their numbers, and what its own names find.
-use Rattle.std.proofs.Common.{◌≡◌, ℕ, zero, suc, ◌+◌, IsTrue, List, [], ◌∷◌, Option, Some, None, refl, sym, ap, subst, ◌∙◌, add-one, arith}
-use Rattle.std.specs.Prelude.{map}
+use Rattle.std.proofs.Common.{◌≡◌, ℕ, zero, suc, ◌+◌, ◌≤◌, IsTrue, List, [], ◌∷◌, Option, Some, None, refl, sym, ap, subst, ◌∙◌, add-one, arith}
+use Rattle.std.specs.Prelude.{map, length}
 use Rattle.std.specs.List.{slice_get, position_or_len}
 use Rattle.std.specs.Str.{bytes_eq}
 use Rattle.std.proofs.lemmas.Option.{same_Some, none-some}
@@ -11,8 +11,9 @@ use Rattle.ostore_schema_layout.specs.declared.schema.TypeNo.{TypeNo}
 use Rattle.ostore_schema_layout.specs.declared.schema.MemberDef.{MemberDef}
 use Rattle.ostore_schema_layout.specs.declared.schema.MemberNo.{MemberNo}
 use Rattle.ostore_schema_layout.specs.declared.declarations.MemberDeclaration.{MemberDeclaration}
-use Rattle.ostore_schema_layout.specs.Cells.{ArePairwise, type_at, members_of_found, IsType}
-use Rattle.ostore_schema_layout.specs.Naming.{name_of_type, type_name, name_of_member, member_at, member_name}
+use Rattle.ostore_schema_layout.specs.Cells.{ArePairwise, IsType}
+use Rattle.ostore_schema_layout.specs.Numbers.{type_at, members_of, members_of_found, name_of_type, type_name, name_of_member, member_at, member_name}
+use Rattle.ostore_schema_layout.specs.Limits.{most_members}
 use Rattle.ostore_schema_layout.specs.Lawful.{IsLawfulMember, AreLawfulMembers, IsLawfulType, AreLawfulTypes, IsLawful}
 use Rattle.ostore_schema_layout.specs.Faults.{type_named, member_named, members_found}
 use Rattle.ostore_schema_layout.specs.Resolving.{type_number, member_number}
@@ -47,6 +48,16 @@ pub lawful_member : (schema : Schema) (ty : TypeNo) (members : List MemberDef) �
 lawful_member schema ty members h j member e =
     let number_is : j + 0 ≡ j = omega arith in
     subst (λ (n : ℕ). IsLawfulMember schema ty (record { 0 = n }) member) number_is (members_from schema ty 0 members j member h e)
+
+few_from : (schema : Schema) (number : ℕ) (types : List TypeDef) (k : ℕ) → AreLawfulTypes schema number types → length (members_of_found (slice_get types k)) ≤ most_members
+few_from schema number [] k h = omega arith
+few_from schema number (ty ∷ types) zero h = h.0.few
+few_from schema number (ty ∷ types) (suc k) h = few_from schema (suc number) types k h.1
+
+-- the members of any type are so few that a byte numbers them
+pub members_few : (schema : Schema) → IsLawful schema → (number : ℕ) → length (members_of schema number) ≤ most_members
+members_few schema lawful zero = omega arith
+members_few schema lawful (suc k) = few_from schema 1 schema.types k lawful.types
 
 -- ---- where a number leads
 

@@ -7,7 +7,8 @@ use Rattle.ostore_schema_layout.specs.declared.schema.MemberDef.{MemberDef}
 use Rattle.ostore_schema_layout.specs.declared.schema.MemberKind.{MemberKind}
 use Rattle.ostore_schema_layout.specs.declared.schema.MemberKind.TheVariants as kinds
 use Rattle.ostore_schema_layout.specs.declared.layouts.Place.{Place}
-use Rattle.ostore_schema_layout.specs.Cells.{ArePairwise, IsType, IsSoundLayout, cell_size, in_fours, kind_size, layout_of, members_of, members_of_found, place_end, places_from, sizes}
+use Rattle.ostore_schema_layout.specs.Cells.{ArePairwise, IsType, IsSoundLayout, cell_size, in_fours, kind_size, layout_of, place_end, places_from, sizes}
+use Rattle.ostore_schema_layout.specs.Numbers.{members_of, members_of_found}
 use Rattle.ostore_schema_layout.specs.Lawful.{AreLawfulTypes, IsLawful}
 
 -- ---- sizes

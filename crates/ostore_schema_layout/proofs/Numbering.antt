@@ -7,8 +7,6 @@ use Rattle.std.proofs.lemmas.List.{length-append}
 use Rattle.std.proofs.lemmas.List.Sums.{prefix_len-le-length}
 use Rattle.ostore_schema_layout.specs.declared.declarations.TypeDeclaration.{TypeDeclaration}
 use Rattle.ostore_schema_layout.specs.declared.declarations.MemberDeclaration.{MemberDeclaration}
-use Rattle.ostore_schema_layout.specs.declared.schema.TypeNo.{TypeNo}
-use Rattle.ostore_schema_layout.specs.declared.schema.MemberNo.{MemberNo}
 use Rattle.ostore_schema_layout.specs.declared.fault.SchemaFault.{SchemaFault}
 use Rattle.ostore_schema_layout.specs.declared.fault.SchemaFault.TheVariants.{DuplicateType, DuplicateMember, CellTooLarge, TooManyTypes, TooManyMembers}
 use Rattle.ostore_schema_layout.specs.Faults.{type_named, member_named, members_found, is_there, target_named, inverse_named, declared_sizes, fault_if, target_faults, inverse_faults, member_faults, members_faults, name_faults, types_faults, faults_of, first_of}
@@ -102,11 +100,3 @@ pub faultless_few : (types : List TypeDeclaration) → first_of (faults_of types
 faultless_few types h =
     let few = types_few types [] types (omega arith) h in
     record { types_few = omega (arith, few.0); members_few = few.1 }
-
--- ---- numbers of places
-
-abbrev pub type_no : ℕ → TypeNo
-type_no place = record { 0 = place + 1 }
-
-abbrev pub member_no : ℕ → MemberNo
-member_no place = record { 0 = place }

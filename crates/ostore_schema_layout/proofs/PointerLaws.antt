@@ -12,7 +12,9 @@ use Rattle.ostore_schema_layout.specs.declared.schema.Schema.{Schema}
 use Rattle.ostore_schema_layout.specs.declared.schema.MemberDef.{MemberDef}
 use Rattle.ostore_schema_layout.specs.declared.schema.MemberKind.{MemberKind}
 use Rattle.ostore_schema_layout.specs.declared.schema.MemberKind.TheVariants as kinds
-use Rattle.ostore_schema_layout.specs.Cells.{ChunkForm, HasCode, IsType, cell_size, chunk_of, chunk_pointers, chunk_size, code_size, descriptor_code, entry_pointers, in_fours, kind_size, members_of, places_from, pointers_of, pointers_of_kind, pointers_of_place, sizes}
+use Rattle.ostore_schema_layout.specs.Cells.{ChunkForm, HasCode, IsType, cell_size, chunk_of, chunk_pointers, chunk_size, code_size, descriptor_code, entry_pointers, in_fours, kind_size, places_from, pointers_of, pointers_of_kind, pointers_of_place, sizes}
+use Rattle.ostore_schema_layout.specs.Numbers.{members_of}
+use Rattle.ostore_schema_layout.specs.Limits.{largest_cell}
 use Rattle.ostore_schema_layout.specs.Lawful.{IsLawful}
 use Rattle.ostore_schema_layout.proofs.LayoutLaws.{lawful_cell_size, sizes_in_cell}
 
@@ -228,3 +230,6 @@ pub lawful_sizes : (schema : Schema) (code : ℕ) → IsLawful schema → HasCod
 lawful_sizes schema code lawful there h =
     let members = members_of schema code in
     omega (arith, sizes_in_cell members, lawful_cell_size schema code lawful (type_of_code schema code there h))
+
+pub lawful_cells : (schema : Schema) (code : ℕ) → IsLawful schema → HasCode schema code → code < 240 → cell_size (members_of schema code) ≤ largest_cell
+lawful_cells schema code lawful there h = lawful_cell_size schema code lawful (type_of_code schema code there h)

@@ -14,10 +14,11 @@ use Rattle.ostore_schema_layout.specs.declared.schema.MemberNo.{MemberNo}
 use Rattle.ostore_schema_layout.specs.declared.schema.MemberKind.{MemberKind}
 use Rattle.ostore_schema_layout.specs.declared.schema.MemberKind.TheVariants as kinds
 use Rattle.ostore_schema_layout.specs.declared.schema.Inverse.{Inverse}
-use Rattle.ostore_schema_layout.specs.Cells.{IsType, members_of_found, type_at}
-use Rattle.ostore_schema_layout.specs.Naming.{name_of_member, name_of_type, type_name}
+use Rattle.ostore_schema_layout.specs.Cells.{IsType}
+use Rattle.ostore_schema_layout.specs.Numbers.{members_of_found, type_at, name_of_member, name_of_type, type_name}
 use Rattle.ostore_schema_layout.specs.Lawful.{AreLawfulMembers, AreLawfulTypes, IsLawful, IsLawfulInverse, IsLawfulKind, IsLawfulMember, IsLawfulType}
-use Rattle.ostore_schema_layout.specs.Spelling.{Spells, canonical_text, inverse_words, kind_words, longest_schema, member_words, schema_lines, type_lines}
+use Rattle.ostore_schema_layout.specs.Spelling.{Spells, canonical_text, inverse_words, kind_words, member_words, schema_lines, type_lines}
+use Rattle.ostore_schema_layout.specs.Limits.{longest_schema}
 
 -- ---- plain words: they stand in a text as they are, and are ASCII
 

@@ -15,8 +15,8 @@ use Rattle.ostore_schema_layout.specs.declared.declarations.MemberDeclaration.{M
 use Rattle.ostore_schema_layout.specs.declared.declarations.KindDeclaration.{KindDeclaration}
 use Rattle.ostore_schema_layout.specs.declared.declarations.KindDeclaration.TheVariants as declared
 use Rattle.ostore_schema_layout.specs.declared.declarations.InverseDeclaration.{InverseDeclaration}
-use Rattle.ostore_schema_layout.specs.Cells.{ArePairwise, type_at, members_of_found, IsType}
-use Rattle.ostore_schema_layout.specs.Naming.{name_of_type, type_name, name_of_member, member_at, member_name}
+use Rattle.ostore_schema_layout.specs.Cells.{ArePairwise, IsType}
+use Rattle.ostore_schema_layout.specs.Numbers.{type_at, members_of_found, name_of_type, type_name, name_of_member, member_at, member_name}
 use Rattle.ostore_schema_layout.specs.Lawful.{link_target, inverse_of}
 use Rattle.ostore_schema_layout.specs.Faults.{type_named, member_named, inverse_named, names_this, names_back, is_side_of, is_found_side_of, members_found, is_inverse}
 use Rattle.ostore_schema_layout.specs.Resolving.{type_number, member_number, resolved_kind, resolved_inverse, resolved_member, resolved_type, resolved}

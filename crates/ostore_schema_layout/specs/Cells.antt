@@ -1,14 +1,15 @@
 -- Cells: where the members of an object lie in its cell, which chunks and descriptors there are beside
 -- the objects, and where the pointers of each are. Sizes and places are in bytes.
-use Rattle.std.specs.Prelude.{◌≡◌, ◌⊎◌, ℕ, zero, suc, ◌+◌, ◌*◌, ◌/◌, ◌%◌, ◌<◌, ◌≤◌, nat_le, ◌==◌, if◌then◌else◌, List, [], ◌∷◌, length, map, Option, Some, None}
-use Rattle.std.specs.List.{flat_map, range_with_len, slice_get, find, AllByRecursion}
+use Rattle.std.specs.Prelude.{◌≡◌, ◌⊎◌, ℕ, ◌+◌, ◌*◌, ◌/◌, ◌%◌, ◌<◌, ◌≤◌, nat_le, ◌==◌, if◌then◌else◌, List, [], ◌∷◌, length, map, Option}
+use Rattle.std.specs.List.{flat_map, range_with_len, find, AllByRecursion}
 use Rattle.ostore_schema_layout.specs.declared.schema.Schema.{Schema}
-use Rattle.ostore_schema_layout.specs.declared.schema.TypeDef.{TypeDef}
 use Rattle.ostore_schema_layout.specs.declared.schema.MemberDef.{MemberDef}
 use Rattle.ostore_schema_layout.specs.declared.schema.MemberKind.{MemberKind}
 use Rattle.ostore_schema_layout.specs.declared.schema.MemberKind.TheVariants as kinds
 use Rattle.ostore_schema_layout.specs.declared.layouts.Place.{Place}
 use Rattle.ostore_schema_layout.specs.declared.layouts.Layout.{Layout}
+use Rattle.ostore_schema_layout.specs.Limits.{largest_cell}
+use Rattle.ostore_schema_layout.specs.Numbers.{members_of}
 
 -- each item stands in a relation to every later one
 abbrev pub ArePairwise : {X : Type 0} → (X → X → Type 0) → List X → Type 0
@@ -49,18 +50,6 @@ cell_size (member ∷ members) = sizes (member ∷ members)
 abbrev pub layout_of : List MemberDef → Layout
 layout_of members = record { size = cell_size members; members = places_from 0 members }
 
--- the members of a type by its number, which counts from 1
-abbrev pub members_of_found : Option TypeDef → List MemberDef
-members_of_found None = []
-members_of_found (Some ty) = ty.members
-
-abbrev pub type_at : Schema → ℕ → Option TypeDef
-type_at schema zero = None
-type_at schema (suc n) = slice_get schema.types n
-
-abbrev pub members_of : Schema → ℕ → List MemberDef
-members_of schema number = members_of_found (type_at schema number)
-
 -- the number is that of a type of the schema
 abbrev pub IsType : Schema → ℕ → Type 0
 IsType schema number = (1 ≤ number) × (number ≤ length schema.types)
@@ -72,7 +61,7 @@ place_end place = place.offset + kind_size place.kind
 pub record IsSoundLayout (layout : Layout) : Type 0 where
   pub some : 0 < layout.size
   pub fours : layout.size % 4 ≡ 0
-  pub most : layout.size ≤ 1000
+  pub most : layout.size ≤ largest_cell
   pub within : AllByRecursion (λ place. (place.offset % 4 ≡ 0) × (place_end place ≤ layout.size)) layout.members
   pub apart : ArePairwise (λ earlier later. place_end earlier ≤ later.offset) layout.members
 

@@ -12,6 +12,7 @@ use Rattle.ostore_schema_layout.specs.declared.declarations.MemberDeclaration.{M
 use Rattle.ostore_schema_layout.specs.declared.declarations.KindDeclaration.{KindDeclaration}
 use Rattle.ostore_schema_layout.specs.declared.declarations.KindDeclaration.TheVariants as kinds
 use Rattle.ostore_schema_layout.specs.declared.declarations.InverseDeclaration.{InverseDeclaration}
+use Rattle.ostore_schema_layout.specs.Limits.{longest_text}
 
 -- a value, or the place of the fault
 infixl 10 ◌>>=◌
@@ -59,7 +60,7 @@ keyword_at keyword line i = do
 unfoldable pub max_at : PlacedLine → ℕ → Result ℕ ℕ
 max_at line i = do
   word ← word_at line i
-  or_at word.at (count_at 1 40 word.bytes)
+  or_at word.at (count_at 1 longest_text word.bytes)
 
 abbrev pub inverse_of_names : ℕ → List ℕ × List ℕ → InverseDeclaration
 inverse_of_names at names = record { at = at; ty = names.0; member = names.1 }

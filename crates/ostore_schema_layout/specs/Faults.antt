@@ -1,6 +1,5 @@
 -- The faults of what a text declares. A name that is declared twice means its first declaration.
 use Rattle.std.specs.Prelude.{ℕ, ◌+◌, Bool, true, false, ◌&&◌, not, if◌then◌else◌, nat_lt, nat_le, List, [], ◌∷◌, ◌++◌, length, Option, Some, None}
-use Rattle.std.specs.List.{find}
 use Rattle.std.specs.Str.{bytes_eq}
 use Rattle.ostore_schema_layout.specs.declared.declarations.NameAt.{NameAt}
 use Rattle.ostore_schema_layout.specs.declared.declarations.TypeDeclaration.{TypeDeclaration}
@@ -10,16 +9,18 @@ use Rattle.ostore_schema_layout.specs.declared.declarations.KindDeclaration.TheV
 use Rattle.ostore_schema_layout.specs.declared.declarations.InverseDeclaration.{InverseDeclaration}
 use Rattle.ostore_schema_layout.specs.declared.fault.SchemaFault.{SchemaFault}
 use Rattle.ostore_schema_layout.specs.declared.fault.SchemaFault.TheVariants.{DuplicateType, DuplicateMember, UnknownType, InverseMismatch, CellTooLarge, TooManyTypes, TooManyMembers}
+use Rattle.ostore_schema_layout.specs.Limits.{most_types, most_members, largest_cell}
+use Rattle.ostore_schema_layout.specs.Numbers.{first_named}
 use Rattle.ostore_schema_layout.specs.Cells.{in_fours}
 
 -- ---- what names mean
 
 -- the type, or the member, that a name means
 abbrev pub type_named : List TypeDeclaration → List ℕ → Option TypeDeclaration
-type_named types name = find (λ ty. bytes_eq ty.name.name name) types
+type_named types name = first_named (λ ty. ty.name.name) types name
 
 abbrev pub member_named : List MemberDeclaration → List ℕ → Option MemberDeclaration
-member_named members name = find (λ member. bytes_eq member.name.name name) members
+member_named members name = first_named (λ member. member.name.name) members name
 
 abbrev pub is_there : {X : Type 0} → Option X → Bool
 is_there None = false
@@ -105,7 +106,7 @@ inverse_faults types ty member (Some target) (Some inverse) = fault_if (not (is_
 unfoldable pub member_faults : List TypeDeclaration → List ℕ → List MemberDeclaration → MemberDeclaration → List SchemaFault
 member_faults types ty earlier member =
     fault_if (is_there (member_named earlier member.name.name)) (DuplicateMember member.name.at)
-    ++ fault_if (nat_le 32 (length earlier)) (TooManyMembers member.name.at)
+    ++ fault_if (nat_le most_members (length earlier)) (TooManyMembers member.name.at)
     ++ target_faults types (target_named member.kind)
     ++ inverse_faults types ty member.name.name (target_named member.kind) (inverse_named member.kind)
 
@@ -118,8 +119,8 @@ members_faults types ty earlier (member ∷ members) =
 unfoldable pub name_faults : List TypeDeclaration → TypeDeclaration → List SchemaFault
 name_faults earlier ty =
     fault_if (is_there (type_named earlier ty.name.name)) (DuplicateType ty.name.at)
-    ++ fault_if (nat_lt 1000 (declared_sizes ty.members)) (CellTooLarge ty.name.at)
-    ++ fault_if (nat_le 64 (length earlier)) (TooManyTypes ty.name.at)
+    ++ fault_if (nat_lt largest_cell (declared_sizes ty.members)) (CellTooLarge ty.name.at)
+    ++ fault_if (nat_le most_types (length earlier)) (TooManyTypes ty.name.at)
 
 unfoldable pub types_faults : List TypeDeclaration → List TypeDeclaration → List TypeDeclaration → List SchemaFault
 types_faults types earlier [] = []

@@ -9,6 +9,7 @@ use Rattle.ostore_schema_layout.specs.declared.declarations.TypeDeclaration.{Typ
 use Rattle.ostore_schema_layout.specs.declared.declarations.MemberDeclaration.{MemberDeclaration}
 use Rattle.ostore_schema_layout.specs.declared.fault.SchemaFault.{SchemaFault}
 use Rattle.ostore_schema_layout.specs.declared.fault.SchemaFault.TheVariants as faults
+use Rattle.ostore_schema_layout.specs.Limits.{most_types, most_members}
 use Rattle.ostore_schema_layout.specs.Declaring.{◌>>=◌, declared_behind, declared_by}
 
 -- the fault of the words at a place; no other fault comes of words
@@ -58,5 +59,5 @@ GivesType lines (Err fault) = Fails fault (declared_by (seen_lines lines))
 
 -- the types, and the members of each, are so few that a byte numbers them
 pub record AreFew (types : List TypeDeclaration) : Type 0 where
-  pub types_few : length types ≤ 64
-  pub members_few : AllByRecursion (λ ty. length ty.members ≤ 32) types
+  pub types_few : length types ≤ most_types
+  pub members_few : AllByRecursion (λ ty. length ty.members ≤ most_members) types

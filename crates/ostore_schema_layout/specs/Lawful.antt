@@ -10,12 +10,13 @@ use Rattle.ostore_schema_layout.specs.declared.schema.MemberKind.{MemberKind}
 use Rattle.ostore_schema_layout.specs.declared.schema.MemberKind.TheVariants as kinds
 use Rattle.ostore_schema_layout.specs.declared.schema.Inverse.{Inverse}
 use Rattle.ostore_schema_layout.specs.Cells.{ArePairwise, IsType, cell_size}
-use Rattle.ostore_schema_layout.specs.Naming.{member_at}
+use Rattle.ostore_schema_layout.specs.Limits.{most_types, most_members, longest_text, largest_cell}
+use Rattle.ostore_schema_layout.specs.Numbers.{member_at}
 
 -- what a kind holds is there
 abbrev pub IsLawfulKind : Schema → MemberKind → Type 0
 IsLawfulKind schema kinds.Int = Unit {0}
-IsLawfulKind schema (kinds.Text max) = (1 ≤ max) × (max ≤ 40)
+IsLawfulKind schema (kinds.Text max) = (1 ≤ max) × (max ≤ longest_text)
 IsLawfulKind schema (kinds.Ref target) = IsType schema target.0
 IsLawfulKind schema (kinds.Set target) = IsType schema target.0
 IsLawfulKind schema (kinds.List target) = IsType schema target.0
@@ -61,10 +62,10 @@ AreLawfulMembers schema ty number (member ∷ members) =
 
 pub record IsLawfulType (schema : Schema) (number : TypeNo) (ty : TypeDef) : Type 0 where
   pub name : IsTrue (is_identifier ty.name)
-  pub few : length ty.members ≤ 32
+  pub few : length ty.members ≤ most_members
   pub own_names : ArePairwise (λ earlier later. earlier.name ≢ later.name) ty.members
   pub members : AreLawfulMembers schema number 0 ty.members
-  pub size : cell_size ty.members ≤ 1000
+  pub size : cell_size ty.members ≤ largest_cell
 
 -- types, of which the first has a number
 abbrev pub AreLawfulTypes : Schema → ℕ → List TypeDef → Type 0
@@ -72,6 +73,6 @@ AreLawfulTypes schema number [] = Unit {0}
 AreLawfulTypes schema number (ty ∷ types) = IsLawfulType schema (record { 0 = number }) ty × AreLawfulTypes schema (suc number) types
 
 pub record IsLawful (schema : Schema) : Type 0 where
-  pub few : length schema.types ≤ 64
+  pub few : length schema.types ≤ most_types
   pub own_names : ArePairwise (λ earlier later. earlier.name ≢ later.name) schema.types
   pub types : AreLawfulTypes schema 1 schema.types

@@ -1,5 +1,6 @@
 pub mod Cells
-pub mod Naming
+pub mod Limits
+pub mod Numbers
 pub mod Spelling
 pub mod Lawful
 pub mod Declaring

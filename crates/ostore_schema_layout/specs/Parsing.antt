@@ -6,7 +6,7 @@ use Rattle.ostore_schema_layout.specs.declared.schema.Schema.{Schema}
 use Rattle.ostore_schema_layout.specs.declared.declarations.TypeDeclaration.{TypeDeclaration}
 use Rattle.ostore_schema_layout.specs.declared.fault.SchemaFault.{SchemaFault}
 use Rattle.ostore_schema_layout.specs.declared.fault.SchemaFault.TheVariants as faults
-use Rattle.ostore_schema_layout.specs.Spelling.{longest_schema}
+use Rattle.ostore_schema_layout.specs.Limits.{longest_schema}
 use Rattle.ostore_schema_layout.specs.Declaring.{declared_by}
 use Rattle.ostore_schema_layout.specs.Faults.{faults_of, first_of}
 use Rattle.ostore_schema_layout.specs.Resolving.{resolved}

@@ -8,14 +8,14 @@ use Rattle.std.specs.List.{flat_map}
 use Rattle.std.specs.Str.{IsUtf8}
 use Rattle.ostore_text_words.specs.Words.{dotted}
 use Rattle.ostore_text_words.specs.Lines.{word_lines, text_of_lines}
-use Rattle.ostore_schema_layout.specs.declared.reading.TheConstants.{LONGEST_SCHEMA}
 use Rattle.ostore_schema_layout.specs.declared.schema.Schema.{Schema}
 use Rattle.ostore_schema_layout.specs.declared.schema.TypeDef.{TypeDef}
 use Rattle.ostore_schema_layout.specs.declared.schema.MemberDef.{MemberDef}
 use Rattle.ostore_schema_layout.specs.declared.schema.MemberKind.{MemberKind}
 use Rattle.ostore_schema_layout.specs.declared.schema.MemberKind.TheVariants as kinds
 use Rattle.ostore_schema_layout.specs.declared.schema.Inverse.{Inverse}
-use Rattle.ostore_schema_layout.specs.Naming.{type_name, member_name}
+use Rattle.ostore_schema_layout.specs.Limits.{longest_schema}
+use Rattle.ostore_schema_layout.specs.Numbers.{type_name, member_name}
 use Rattle.ostore_schema_layout.specs.Lawful.{IsLawful}
 
 abbrev pub kind_words : Schema → MemberKind → List (List ℕ)
@@ -43,10 +43,6 @@ schema_lines schema = flat_map (type_lines schema) schema.types
 -- the text with one space between words, no comments and a newline after each line
 abbrev pub canonical_text : Schema → List ℕ
 canonical_text schema = text_of_lines (schema_lines schema)
-
--- the longest text of a schema, in bytes
-abbrev pub longest_schema : ℕ
-longest_schema = LONGEST_SCHEMA
 
 -- the text spells the schema, which is a lawful one
 pub record Spells (text : List ℕ) (schema : Schema) : Type 0 where

@@ -1,7 +1,9 @@
 //! Laying out the members of a type in the cell of its objects.
 
 ghost use Rattle.std.specs.Prelude.{◌≡◌, ◌≤◌, IfOk};
-ghost use Rattle.ostore_schema_layout.specs.Cells.{IsType, IsSoundLayout, cell_size, in_fours, kind_size, layout_of, members_of};
+ghost use Rattle.ostore_schema_layout.specs.Limits.{largest_cell};
+ghost use Rattle.ostore_schema_layout.specs.Cells.{IsType, IsSoundLayout, cell_size, in_fours, kind_size, layout_of};
+ghost use Rattle.ostore_schema_layout.specs.Numbers.{members_of};
 ghost use Rattle.ostore_schema_layout.specs.Lawful.{IsLawful};
 
 use crate::layouts::{Layout, Place, Places};
@@ -28,7 +30,7 @@ pub fn layout(alloc: Global, schema: &Schema, ty: TypeNo) -> Result<Layout, OutO
 /// The layout of members that have room in a cell.
 #[tactic(auto, using(crate::proofs::LayoutLaws::sizes_in_cell))]
 fn layout_of_members(alloc: Global, members: &[MemberDef]) -> Result<Layout, OutOfMemory>
-    requires { cell_size members.now ≤ 1000 }
+    requires { cell_size members.now ≤ largest_cell }
     ensures { IfOk result (λ layout. layout ≡ layout_of members.now) }
 {
     let mut places = Places::new(alloc);
@@ -62,8 +64,24 @@ pub fn kind_size(kind: MemberKind) -> u16
 
 /// The next multiple of 4.
 fn in_fours(count: u16) -> u16
-    requires { count ≤ 1000 }
+    requires { count ≤ largest_cell }
     ensures { result ≡ in_fours count }
 {
     count.div_ceil(4) * 4
+}
+
+/// How many bytes a cell of members takes.
+#[tactic(auto, using(crate::proofs::LayoutLaws::sizes_in_cell))]
+pub(crate) fn members_size(members: &[MemberDef]) -> u16
+    requires { cell_size members.now ≤ largest_cell }
+    ensures { result ≡ cell_size members.now }
+{
+    if members.is_empty() {
+        return EMPTY_CELL;
+    }
+    let mut size = 0;
+    for member in members {
+        size += kind_size(member.kind);
+    }
+    size
 }

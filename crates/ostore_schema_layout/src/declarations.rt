@@ -1,6 +1,7 @@
 //! What the lines of a schema's text declare, with names as they stand and the places of those that may
 //! be wrong.
 
+use crate::lookup::Named;
 use ostore_base::{ListOf, Text};
 
 /// A name, and where it stands in the text.
@@ -22,6 +23,22 @@ pub struct TypeDeclaration {
 pub struct MemberDeclaration {
     pub name: NameAt,
     pub kind: KindDeclaration,
+}
+
+impl Named for TypeDeclaration {
+    ghost name_of = { λ ty. ty.name.name };
+
+    fn name(&self) -> &[u8] {
+        self.name.name.bytes()
+    }
+}
+
+impl Named for MemberDeclaration {
+    ghost name_of = { λ member. member.name.name };
+
+    fn name(&self) -> &[u8] {
+        self.name.name.bytes()
+    }
 }
 
 /// What a member's line says behind its name.

@@ -6,6 +6,7 @@ mod cells;
 mod declarations;
 mod fault;
 mod layouts;
+mod lookup;
 mod pointers;
 mod print;
 mod reading;
@@ -14,7 +15,8 @@ mod schema;
 pub use cells::layout;
 pub use fault::SchemaFault;
 pub use layouts::{Layout, Place, Places};
-pub use pointers::{Pointers, next_pointer, pointer_places};
+pub use lookup::{Named, first_named, place_named};
+pub use pointers::{Pointers, code_size, next_pointer, pointer_places};
 pub use print::print_schema;
 pub use reading::{LONGEST_SCHEMA, parse_schema};
 pub use schema::{

@@ -3,12 +3,13 @@
 ghost use Rattle.std.specs.Prelude.{◌≡◌, ◌≢◌, ◌+◌, ◌≤◌, [], ◌∷◌, ◌++◌, nat_le, IfOk, OnOk};
 ghost use Rattle.std.specs.List.{AllByRecursion, find};
 ghost use Rattle.std.specs.List.Sorted.{IsStrictlyIncreasing};
+ghost use Rattle.ostore_schema_layout.specs.Limits.{largest_cell};
 ghost use Rattle.ostore_schema_layout.specs.Cells.{HasCode, chunk_of, chunk_pointers, code_size, descriptor_code, entry_pointers, pointer_from, pointers_of, pointers_of_kind, sizes, type_pointers};
 ghost use Rattle.ostore_schema_layout.specs.Lawful.{IsLawful};
 
 mod walk;
 
-use crate::cells::kind_size;
+use crate::cells::{kind_size, members_size};
 use crate::schema::{MemberDef, MemberKind, Schema, TypeNo};
 use ostore_base::OutOfMemory;
 use std::alloc::Global;
@@ -34,6 +35,9 @@ const INDEX_TEXT_CHUNK: u8 = 246;
 
 /// Where a chunk's entries begin, in bytes from its start. The next chunk's pointer stands at its start.
 const ENTRIES_AT: u16 = 8;
+
+/// The size of a descriptor, in bytes.
+const DESCRIPTOR_BYTES: u16 = 16;
 
 /// Where a descriptor has its first chunk's pointer.
 const FIRST_CHUNK_AT: u16 = 4;
@@ -80,6 +84,25 @@ fn chunk_form(code: u8) -> ChunkForm
     }
 }
 
+// ---- sizes
+
+/// The size of a cell of a code, in bytes. The code is that of a type of the schema, or one of the seven of
+/// chunks and descriptors, 240 to 246. It takes no memory.
+pub fn code_size(schema: &Schema, code: u8) -> u16
+    requires lawful { IsLawful schema.now }
+    requires there { HasCode schema.now code }
+    ensures { result ≡ code_size schema.now code }
+{
+    if code < FIRST_CHUNK {
+        members_size(schema.members_of(TypeNo(code)))
+    } else if code == DESCRIPTOR {
+        DESCRIPTOR_BYTES
+    } else {
+        let form = chunk_form(code);
+        ENTRIES_AT + form.entries * form.entry_size
+    }
+}
+
 // ---- the next pointer
 
 /// The least of the pointers' places that is at least `from`, and None exactly where there is none. It
@@ -100,7 +123,7 @@ pub fn next_pointer(schema: &Schema, code: u8, from: u16) -> Option<u16>
 
 /// The next pointer of a type's cell.
 fn next_in_type(members: &[MemberDef], from: u16) -> Option<u16>
-    requires { sizes members.now ≤ 1000 }
+    requires { sizes members.now ≤ largest_cell }
     ensures { result ≡ find (λ place. nat_le from place) (type_pointers members.now) }
 {
     let mut at = 0;
@@ -116,7 +139,7 @@ fn next_in_type(members: &[MemberDef], from: u16) -> Option<u16>
 
 /// The next pointer of a member that begins at a place.
 fn next_in_member(at: u16, kind: MemberKind, from: u16) -> Option<u16>
-    requires { at ≤ 1000 }
+    requires { at ≤ largest_cell }
     ensures { result ≡ find (λ place. nat_le from place) (pointers_of_kind at kind) }
 {
     match kind {
@@ -187,7 +210,7 @@ pub fn pointer_places(alloc: Global, schema: &Schema, code: u8) -> Result<Vec<u1
 
 /// Adds the pointers of a type's cell.
 fn push_type_pointers(places: &mut Vec<u16>, members: &[MemberDef]) -> Result<(), OutOfMemory>
-    requires { sizes members.now ≤ 1000 }
+    requires { sizes members.now ≤ largest_cell }
     ensures { OnOk result (places.new.items ≡ places.old.items ++ type_pointers members.now) }
 {
     let mut at = 0;
@@ -200,7 +223,7 @@ fn push_type_pointers(places: &mut Vec<u16>, members: &[MemberDef]) -> Result<()
 
 /// Adds the pointers of a member that begins at a place.
 fn push_member_pointers(places: &mut Vec<u16>, at: u16, kind: MemberKind) -> Result<(), OutOfMemory>
-    requires { at ≤ 1000 }
+    requires { at ≤ largest_cell }
     ensures { OnOk result (places.new.items ≡ places.old.items ++ pointers_of_kind at kind) }
 {
     match kind {

@@ -1,11 +1,13 @@
 //! The types of a schema.
 
-ghost use Rattle.std.specs.Prelude.{◌≡◌, option_map};
-ghost use Rattle.ostore_schema_layout.specs.Cells.{members_of, type_at};
-ghost use Rattle.ostore_schema_layout.specs.Naming.{member_name, type_name};
+ghost use Rattle.std.specs.Prelude.{◌≡◌, option_map, IsSome, IfSome};
+ghost use Rattle.ostore_schema_layout.specs.Cells.{IsType};
+ghost use Rattle.ostore_schema_layout.specs.Lawful.{IsLawful};
+ghost use Rattle.ostore_schema_layout.specs.Numbers.{member_at, member_name, member_named, members_of, type_at, type_name, type_named};
 
 mod copying;
 
+use crate::lookup::{Named, place_named};
 use ostore_base::{ListOf, Text};
 
 /// A type by its place in the schema's text. The first type is 1.
@@ -69,8 +71,31 @@ pub struct Schema {
     pub types: TypeDefs,
 }
 
+impl Named for TypeDef {
+    ghost name_of = { λ ty. ty.name };
+
+    fn name(&self) -> &[u8] {
+        self.name.bytes()
+    }
+}
+
+impl Named for MemberDef {
+    ghost name_of = { λ member. member.name };
+
+    fn name(&self) -> &[u8] {
+        self.name.bytes()
+    }
+}
+
 impl Schema {
-    /// The members of a type, or none where there is no such type.
+    /// The type of a number, and None where there is no such type.
+    pub fn type_at(&self, ty: TypeNo) -> Option<&TypeDef>
+        ensures { option_map (λ found. found.now) result ≡ type_at self.now ty.0 }
+    {
+        self.types.items().get(usize::from(ty.0).checked_sub(1)?)
+    }
+
+    /// The members of a type, and no members where there is no such type.
     pub fn members_of(&self, ty: TypeNo) -> &[MemberDef]
         ensures { result.now ≡ members_of self.now ty.0 }
     {
@@ -80,7 +105,34 @@ impl Schema {
         }
     }
 
-    /// The name of a type, or none where there is no such type.
+    /// The member of a type by its number, and None where there is no such member.
+    pub fn member_at(&self, ty: TypeNo, member: MemberNo) -> Option<&MemberDef>
+        ensures { option_map (λ found. found.now) result ≡ member_at self.now ty member }
+    {
+        self.members_of(ty).get(usize::from(member.0))
+    }
+
+    /// The type of a name, and None where there is no such type.
+    pub fn type_named(&self, name: &[u8]) -> Option<TypeNo>
+        requires lawful { IsLawful self.now }
+        ensures named { result ≡ type_named self.now name.now }
+        ensures there { IfSome result (λ ty. IsType self.now ty.0) }
+    {
+        let place = place_named(self.types.items(), name)?;
+        Some(TypeNo(place as u8 + 1))
+    }
+
+    /// The member of a type by its name, and None where there is no such member.
+    pub fn member_named(&self, ty: TypeNo, name: &[u8]) -> Option<MemberNo>
+        requires lawful { IsLawful self.now }
+        ensures named { result ≡ member_named self.now ty name.now }
+        ensures there { IfSome result (λ member. IsSome (member_at self.now ty member)) }
+    {
+        let place = place_named(self.members_of(ty), name)?;
+        Some(MemberNo(place as u8))
+    }
+
+    /// The name of a type, and the empty one where there is no such type.
     pub fn type_name(&self, ty: TypeNo) -> &[u8]
         ensures { result.now ≡ type_name self.now ty }
     {
@@ -90,20 +142,13 @@ impl Schema {
         }
     }
 
-    /// The name of a member of a type, or none where there is no such member.
+    /// The name of a member of a type, and the empty one where there is no such member.
     pub fn member_name(&self, ty: TypeNo, member: MemberNo) -> &[u8]
         ensures { result.now ≡ member_name self.now ty member }
     {
-        match self.members_of(ty).get(usize::from(member.0)) {
+        match self.member_at(ty, member) {
             Some(member) => member.name.bytes(),
             None => b"",
         }
-    }
-
-    /// The type of a number, where there is one.
-    fn type_at(&self, ty: TypeNo) -> Option<&TypeDef>
-        ensures { option_map (λ found. found.now) result ≡ type_at self.now ty.0 }
-    {
-        self.types.items().get(usize::from(ty.0).checked_sub(1)?)
     }
 }

@@ -1,5 +1,6 @@
-//! Texts of schemas with what they say, layouts, pointers and canonical texts.
+//! Texts of schemas with what they say, layouts, pointers and canonical texts, and a schema of the greatest size.
 
+mod ample;
 mod layouts;
 mod printing;
 mod reading;

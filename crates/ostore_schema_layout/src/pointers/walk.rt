@@ -3,6 +3,7 @@
 ghost use Rattle.std.specs.Prelude.{◌≡◌, ◌+◌, ◌*◌, ◌≤◌, [], ◌∷◌, ◌++◌, drop, IfSome, MatchOption};
 ghost use Rattle.std.specs.List.{slice_get};
 ghost use Rattle.ostore_schema_layout.specs.Cells.{HasCode, pointers_of, sizes, type_pointers};
+ghost use Rattle.ostore_schema_layout.specs.Limits.{largest_cell};
 ghost use Rattle.ostore_schema_layout.specs.Lawful.{IsLawful};
 ghost use Rattle.ostore_schema_layout.specs.Walking.{member_pointers, pointer_found, pointers_from};
 
@@ -29,13 +30,14 @@ pub struct Pointers<'a> {
 impl<'a> Model for Pointers<'a> {
     ghost use Rattle.std.specs.Prelude.{List, ℕ, ◌+◌, ◌*◌, ◌≤◌};
     ghost use Rattle.ostore_schema_layout.specs.Cells.{sizes};
+    ghost use Rattle.ostore_schema_layout.specs.Limits.{largest_cell};
     ghost use Rattle.ostore_schema_layout.specs.Walking.{pointers_left};
 
     ghost Value = { List ℕ };
 
     ghost view = { λ p. pointers_left p.found p.at p.members.now p.entry_at p.entry_size p.entries };
 
-    ghost invariant = { λ p. (p.at + sizes p.members.now ≤ 1000) × (p.entry_at + p.entry_size * p.entries ≤ 1000) };
+    ghost invariant = { λ p. (p.at + sizes p.members.now ≤ largest_cell) × (p.entry_at + p.entry_size * p.entries ≤ largest_cell) };
 }
 
 impl<'a> Pointers<'a> {
@@ -58,7 +60,7 @@ impl<'a> Pointers<'a> {
 
     /// The walk over a type's cell.
     fn of_members(members: &'a [MemberDef]) -> Pointers<'a>
-        requires { sizes members.now ≤ 1000 }
+        requires { sizes members.now ≤ largest_cell }
         ensures { result ≡ type_pointers members.now }
     {
         Pointers {
@@ -73,7 +75,7 @@ impl<'a> Pointers<'a> {
 
     /// The walk over a cell that begins with a pointer and has entries.
     fn of_entries(entry_at: u16, entry_size: u16, entries: u16) -> Pointers<'a>
-        requires { entry_at + entry_size * entries ≤ 1000 }
+        requires { entry_at + entry_size * entries ≤ largest_cell }
         ensures { result ≡ 0 ∷ pointers_from entry_at entry_size entries }
     {
         Pointers {
@@ -123,9 +125,9 @@ struct Found<'a> {
 
 /// The pointers of the first member that has any. The first member begins at a place.
 fn next_member(at: u16, members: &[MemberDef]) -> Option<Found<'_>>
-    requires { at + sizes members.now ≤ 1000 }
+    requires { at + sizes members.now ≤ largest_cell }
     ensures found { MatchOption result (member_pointers at members.now ≡ []) (λ found. member_pointers at members.now ≡ found.place ∷ (pointer_found found.second ++ member_pointers found.at found.members.now)) }
-    ensures room { IfSome result (λ found. found.at + sizes found.members.now ≤ 1000) }
+    ensures room { IfSome result (λ found. found.at + sizes found.members.now ≤ largest_cell) }
 {
     let mut at = at;
     for (i, member) in members.iter().enumerate() {

@@ -1,13 +1,15 @@
 //! The first fault of what a text declares.
 
 ghost use Rattle.std.specs.Prelude.{◌≡◌, ◌≤◌, [], ◌++◌, nat_lt, option_map};
+ghost use Rattle.ostore_schema_layout.specs.Limits.{largest_cell};
 ghost use Rattle.ostore_schema_layout.specs.Faults.{type_named as type_named_in, member_named as member_named_in, inverse_named as inverse_named_of, target_named as target_named_of, is_found_side_of, is_side_of as is_side_for, members_found, is_inverse as is_inverse_of, names_this as names_this_of, declared_size as declared_size_of, declared_sizes, target_faults, inverse_faults, member_faults, members_faults, name_faults, types_faults, faults_of, first_of};
 
 use crate::declarations::{
     InverseDeclaration, KindDeclaration, MemberDeclaration, NameAt, TypeDeclaration,
 };
 use crate::fault::SchemaFault;
-use crate::reading::names::{member_named, members_named, type_named};
+use crate::lookup::first_named;
+use crate::reading::names::members_named;
 
 /// The most types that a schema may have.
 const MOST_TYPES: usize = 64;
@@ -60,7 +62,7 @@ fn declared_size(kind: &KindDeclaration) -> usize
 
 /// Whether the members take more than the largest cell.
 fn is_too_large(members: &[MemberDeclaration]) -> bool
-    ensures { result ≡ nat_lt 1000 (declared_sizes members.now) }
+    ensures { result ≡ nat_lt largest_cell (declared_sizes members.now) }
 {
     let mut size = 0;
     for member in members {
@@ -106,7 +108,7 @@ fn is_found_side(
     ensures { result ≡ is_found_side_of (member_named_in (members_found (type_named_in types.now inverse.now.ty)) inverse.now.member) ty.now member.now }
 {
     let members = members_named(types, inverse.ty.bytes());
-    match member_named(members, inverse.member.bytes()) {
+    match first_named(members, inverse.member.bytes()) {
         Some(other) => is_side_of(&other.kind, ty, member),
         None => false,
     }
@@ -138,7 +140,7 @@ fn link_fault(
         ++ inverse_faults types.now ty.now member.now.name.name (target_named_of member.now.kind) (inverse_named_of member.now.kind)) }
 {
     let target = target_named(&member.kind)?;
-    if type_named(types, target.name.bytes()).is_none() {
+    if first_named(types, target.name.bytes()).is_none() {
         return Some(SchemaFault::UnknownType { at: target.at });
     }
     let inverse = inverse_named(&member.kind)?;
@@ -165,7 +167,7 @@ fn member_fault(
     ensures { result ≡ first_of (member_faults types.now ty.now earlier.now member.now) }
 {
     let name = &member.name;
-    if member_named(earlier, name.name.bytes()).is_some() {
+    if first_named(earlier, name.name.bytes()).is_some() {
         return Some(SchemaFault::DuplicateMember { at: name.at });
     }
     if earlier.len() >= MOST_MEMBERS {
@@ -193,7 +195,7 @@ fn name_fault(earlier: &[TypeDeclaration], ty: &TypeDeclaration) -> Option<Schem
     ensures { result ≡ first_of (name_faults earlier.now ty.now) }
 {
     let at = ty.name.at;
-    if type_named(earlier, ty.name.name.bytes()).is_some() {
+    if first_named(earlier, ty.name.name.bytes()).is_some() {
         return Some(SchemaFault::DuplicateType { at });
     }
     if is_too_large(ty.members.items()) {

@@ -1,55 +1,40 @@
 //! Declarations without a fault as a schema: names become the numbers of what they mean.
 
-ghost use Rattle.std.specs.Prelude.{◌≡◌, ◌≤◌, length, IfOk, position};
-ghost use Rattle.std.specs.Str.{bytes_eq};
+ghost use Rattle.std.specs.Prelude.{◌≡◌, ◌≤◌, length, IfOk};
 ghost use Rattle.ostore_schema_layout.specs.Faults.{inverse_named as inverse_named_of};
 ghost use Rattle.ostore_schema_layout.specs.Resolving.{type_number as type_number_of, member_number as member_number_of, resolved_kind as resolved_kind_of, resolved_inverse as resolved_inverse_of, resolved_member as resolved_member_of, resolved_type as resolved_type_of, resolved as resolved_of};
 ghost use Rattle.ostore_schema_layout.specs.Judging.{AreFew};
+ghost use Rattle.ostore_schema_layout.specs.Limits.{most_types, most_members};
 
 use crate::declarations::{KindDeclaration, MemberDeclaration, TypeDeclaration};
+use crate::lookup::place_named;
 use crate::reading::faults::inverse_named;
 use crate::reading::names::members_named;
 use crate::schema::{Inverse, MemberDef, MemberKind, MemberNo, Schema, TypeDef, TypeNo};
 use ostore_base::{ListOf, OutOfMemory};
 use std::alloc::Global;
 
-/// The place of the first type of this name.
-fn type_place(types: &[TypeDeclaration], name: &[u8]) -> Option<usize>
-    ensures { result ≡ position (λ ty. bytes_eq ty.name.name name.now) types.now }
-{
-    types.iter().position(|ty| ty.name.name.bytes() == name)
-}
-
-/// The place of the first member of this name.
-fn member_place(members: &[MemberDeclaration], name: &[u8]) -> Option<usize>
-    ensures { result ≡ position (λ member. bytes_eq member.name.name name.now) members.now }
-{
-    members
-        .iter()
-        .position(|member| member.name.name.bytes() == name)
-}
-
 /// The number of the type that a name means.
 fn type_number(types: &[TypeDeclaration], name: &[u8]) -> TypeNo
-    requires { length types.now ≤ 64 }
+    requires { length types.now ≤ most_types }
     ensures { result ≡ type_number_of types.now name.now }
 {
-    let place = type_place(types, name).unwrap_or(types.len());
+    let place = place_named(types, name).unwrap_or(types.len());
     TypeNo(place as u8 + 1)
 }
 
 /// The number of the member that a name means.
 fn member_number(members: &[MemberDeclaration], name: &[u8]) -> MemberNo
-    requires { length members.now ≤ 32 }
+    requires { length members.now ≤ most_members }
     ensures { result ≡ member_number_of members.now name.now }
 {
-    let place = member_place(members, name).unwrap_or(members.len());
+    let place = place_named(members, name).unwrap_or(members.len());
     MemberNo(place as u8)
 }
 
 /// The kind, with the number of the type that it names.
 fn resolved_kind(types: &[TypeDeclaration], kind: &KindDeclaration) -> MemberKind
-    requires { length types.now ≤ 64 }
+    requires { length types.now ≤ most_types }
     ensures { result ≡ resolved_kind_of types.now kind.now }
 {
     match kind {

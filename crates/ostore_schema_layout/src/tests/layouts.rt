@@ -5,7 +5,7 @@ ghost use Rattle.ostore_schema_layout.specs.Cells.{HasCode, IsType};
 ghost use Rattle.ostore_schema_layout.specs.Lawful.{IsLawful};
 
 use crate::cells::layout;
-use crate::pointers::{Pointers, next_pointer, pointer_places};
+use crate::pointers::{Pointers, code_size, next_pointer, pointer_places};
 use crate::schema::{Schema, TypeNo};
 use crate::tests::samples::three_types;
 use ostore_base::OutOfMemory;
@@ -120,16 +120,17 @@ fn expect_pointers(
 fn chunks_have_their_pointers(rt: HostRuntime) -> Result<(), Fail> {
     let alloc = rt.alloc();
     let schema = three_types(alloc)?;
-    for (code, second, third, last, count) in [
-        (240, 8, Some(12), 124, 31),
-        (241, 8, Some(12), 124, 31),
-        (242, 16, Some(28), 196, 17),
-        (243, 52, Some(100), 388, 9),
-        (244, 4, None, 4, 2),
-        (245, 16, Some(36), 316, 17),
-        (246, 52, Some(108), 892, 17),
+    for (code, size, second, third, last, count) in [
+        (240, 128, 8, Some(12), 124, 31),
+        (241, 128, 8, Some(12), 124, 31),
+        (242, 200, 16, Some(28), 196, 17),
+        (243, 392, 52, Some(100), 388, 9),
+        (244, 16, 4, None, 4, 2),
+        (245, 328, 16, Some(36), 316, 17),
+        (246, 904, 52, Some(108), 892, 17),
     ] {
         assert!(rt; code >= 240 && code <= 246);
+        assert_eq!(rt; code_size(&schema, code), size);
         expect_pointers(&rt, alloc, &schema, code, second, third, last, count)?;
         expect_walk(&rt, alloc, &schema, code)?;
     }

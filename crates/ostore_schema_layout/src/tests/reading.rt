@@ -3,6 +3,7 @@
 use crate::fault::SchemaFault;
 use crate::reading::{LONGEST_SCHEMA, parse_schema};
 use crate::schema::{Inverse, MemberKind, MemberNo, Schema, TypeNo};
+use crate::tests::samples::numbered;
 use std::alloc::{AllocError, Global};
 use std::process::Abort;
 use std::test::Fail;
@@ -257,24 +258,6 @@ fn inverses_that_are_none(rt: HostRuntime) {
     }
 }
 
-/// A text: the head, then lines that begin with a letter and numbers from 10 on.
-fn numbered(
-    alloc: Global,
-    head: &[u8],
-    count: u8,
-    before: &[u8],
-    behind: &[u8],
-) -> Result<Vec<u8>, AllocError> {
-    let mut text = head.to_vec(alloc)?;
-    for n in 0..count {
-        text.extend_from_slice(before)?;
-        text.push(b'1' + n / 10 % 9)?;
-        text.push(b'0' + n % 10)?;
-        text.extend_from_slice(behind)?;
-    }
-    Ok(text)
-}
-
 #[test]
 fn types_and_members_are_counted(rt: HostRuntime) -> Result<(), Fail> {
     let alloc = rt.alloc();
@@ -360,29 +343,12 @@ fn texts_are_at_most_32764_bytes(rt: HostRuntime) -> Result<(), Fail> {
     Ok(())
 }
 
-/// Where the fault is.
-fn place(fault: SchemaFault) -> usize {
-    match fault {
-        SchemaFault::Syntax { at }
-        | SchemaFault::DuplicateType { at }
-        | SchemaFault::DuplicateMember { at }
-        | SchemaFault::UnknownType { at }
-        | SchemaFault::InverseMismatch { at }
-        | SchemaFault::CellTooLarge { at }
-        | SchemaFault::TooManyTypes { at }
-        | SchemaFault::TooManyMembers { at }
-        | SchemaFault::TooLong { at }
-        | SchemaFault::NotUtf8 { at } => at,
-        SchemaFault::OutOfMemory => usize::MAX,
-    }
-}
-
 #[test]
 fn places_are_in_the_text(rt: HostRuntime) {
     for end in 0..STORE.len() {
         let Err(fault) = parse_schema(rt.alloc(), &STORE[..end]) else {
             continue;
         };
-        assert!(rt; place(fault) <= end);
+        assert!(rt; fault != SchemaFault::OutOfMemory && fault.place() <= end);
     }
 }

@@ -1,11 +1,11 @@
-//! Schemas that are built by hand.
+//! Schemas that are built by hand, and texts of many lines.
 
 ghost use Rattle.std.specs.Prelude.{◌≡◌, length, map, IfOk};
 ghost use Rattle.ostore_schema_layout.specs.Lawful.{IsLawful};
 
 use crate::schema::{Inverse, MemberDef, MemberKind, MemberNo, Schema, TypeDef, TypeNo};
 use ostore_base::{ListOf, OutOfMemory, Text};
-use std::alloc::Global;
+use std::alloc::{AllocError, Global};
 
 /// A type, from its name, and of each member the name, what it holds and its inverse.
 fn ty(
@@ -91,4 +91,22 @@ fn inverse(ty: u8, member: u8) -> Option<Inverse> {
         ty: TypeNo(ty),
         member: MemberNo(member),
     })
+}
+
+/// A text: the head, then lines that begin with a letter and numbers from 10 on.
+pub fn numbered(
+    alloc: Global,
+    head: &[u8],
+    count: u8,
+    before: &[u8],
+    behind: &[u8],
+) -> Result<Vec<u8>, AllocError> {
+    let mut text = head.to_vec(alloc)?;
+    for n in 0..count {
+        text.extend_from_slice(before)?;
+        text.push(b'1' + n / 10 % 9)?;
+        text.push(b'0' + n % 10)?;
+        text.extend_from_slice(behind)?;
+    }
+    Ok(text)
 }
