@@ -1,14 +1,16 @@
 -- A transaction of the commands that are built, over a schema whose members are all plain ints, is
 -- described at each step.
-use Rattle.std.proofs.Common.{ℕ, zero, suc, ◌+◌, ◌-◌, Bool, true, false, cond, List, [], ◌∷◌, refl, sym, subst, Option, Some, None, IsSome}
+use Rattle.std.proofs.Common.{ℕ, zero, suc, Bool, true, false, List, [], ◌∷◌, refl, sym, subst, Option, Some, None, IsSome}
 use Rattle.std.specs.Option.{option_map, option_and_then}
-use Rattle.std.specs.Str.{bytes_eq}
 use Rattle.std.specs.List.{AllByRecursion, slice_get}
 use Rattle.std.specs.FinMap as maps
 use Rattle.ostore_schema_layout.specs.declared.schema.Schema.{Schema}
 use Rattle.ostore_schema_layout.specs.declared.schema.TypeDef.{TypeDef}
 use Rattle.ostore_schema_layout.specs.declared.schema.MemberDef.{MemberDef}
+use Rattle.ostore_schema_layout.specs.declared.schema.TypeNo.{TypeNo}
+use Rattle.ostore_schema_layout.specs.declared.schema.MemberNo.{MemberNo}
 use Rattle.ostore_schema_layout.specs.declared.schema.MemberKind.{MemberKind}
+use Rattle.ostore_schema_layout.specs.Numbers.{members_of_found, members_of, member_at, member_named}
 use Rattle.ostore_schema_layout.specs.declared.schema.MemberKind.TheVariants as kinds
 use Rattle.ostore_graph_model.specs.declared.values.Name.{Name}
 use Rattle.ostore_graph_model.specs.declared.values.Value.TheVariants as values
@@ -17,7 +19,7 @@ use Rattle.ostore_graph_model.specs.declared.commands.Command.TheVariants.{New, 
 use Rattle.ostore_graph_model.specs.declared.commands.Operand.TheVariants as operands
 use Rattle.ostore_graph_model.specs.declared.commands.Txn.{Txn}
 use Rattle.ostore_graph_model.specs.Graph.{Graph, Object}
-use Rattle.ostore_graph_model.specs.Step.{Vars, Stepped, step, named_from, member_named, members_in, members_of, at_member, at_name, at_object, at_named, get_of, set_int_of}
+use Rattle.ostore_graph_model.specs.Step.{Vars, Stepped, step, at_member, at_name, at_object, at_number, at_def, get_of, set_int_of}
 use Rattle.ostore_graph_model.specs.Transaction.{with_first, run_from, transaction}
 use Rattle.ostore_job_text.specs.Spelling.{IsIntMember, IsBuiltCommand}
 
@@ -33,29 +35,35 @@ pub IsSome-map : {A B : Type 0} (f : A → B) (o : Option A) → IsSome o → Is
 IsSome-map f None h = h
 IsSome-map f (Some x) h = refl
 
--- the elements of a list have P, where there are any
-IfAny : {X : Type 0} → (X → Type 0) → Option (ℕ × X) → Type 0
+-- what is there has P
+IfAny : {X : Type 0} → (X → Type 0) → Option X → Type 0
 IfAny P None = Unit {0}
-IfAny P (Some found) = P found.1
+IfAny P (Some x) = P x
 
-named_from-IfAny : {X : Type 0} (P : X → Type 0) (name_of : X → List ℕ) (name : List ℕ) (place : ℕ) (xs : List X) → AllByRecursion P xs → IfAny P (named_from name_of name place xs)
+slice_get-IfAny : {X : Type 0} (P : X → Type 0) (xs : List X) (n : ℕ) → AllByRecursion P xs → IfAny P (slice_get xs n)
 unfolding IfAny
-named_from-IfAny P name_of name place [] all = tt
-named_from-IfAny P name_of name place (x ∷ xs) all =
-    elim (bytes_eq (name_of x) name) as (λ b. IfAny P (cond b (Some (place, x)) (named_from name_of name (place + 1) xs))) [
-      | true ↦ all.0
-      | false ↦ named_from-IfAny P name_of name (place + 1) xs all.1
-    ]
+slice_get-IfAny P [] n all = tt
+slice_get-IfAny P (x ∷ xs) zero all = all.0
+slice_get-IfAny P (x ∷ xs) (suc n) all = slice_get-IfAny P xs n all.1
 
-members_in-ints : (types : List TypeDef) (n : ℕ) → AllByRecursion (λ type_def. AllByRecursion IsIntMember type_def.members) types → AllByRecursion IsIntMember (members_in (slice_get types n))
-members_in-ints [] n all = tt
-members_in-ints (x ∷ xs) zero all = all.0
-members_in-ints (x ∷ xs) (suc n) all = members_in-ints xs n all.1
+found-ints : (types : List TypeDef) (n : ℕ) → AllByRecursion (λ type_def. AllByRecursion IsIntMember type_def.members) types → AllByRecursion IsIntMember (members_of_found (slice_get types n))
+found-ints [] n all = tt
+found-ints (x ∷ xs) zero all = all.0
+found-ints (x ∷ xs) (suc n) all = found-ints xs n all.1
 
-at_named-IsSome : (vars : Vars) (graph : Graph) (o : Option (ℕ × MemberDef)) (next : ℕ → MemberKind → Option Stepped) → IfAny IsIntMember o → ((place : ℕ) → IsSome (next place kinds.Int)) → IsSome (at_named vars graph o next)
+members_of-ints : (schema : Schema) (number : ℕ) → HasIntMembers schema → AllByRecursion IsIntMember (members_of schema number)
+members_of-ints schema zero ints = tt
+members_of-ints schema (suc n) ints = found-ints schema.types n ints
+
+at_def-IsSome : (vars : Vars) (graph : Graph) (o : Option MemberDef) (next : MemberKind → Option Stepped) → IfAny IsIntMember o → IsSome (next kinds.Int) → IsSome (at_def vars graph o next)
 unfolding IfAny
-at_named-IsSome vars graph None next int goes = refl
-at_named-IsSome vars graph (Some found) next int goes = subst (λ (kind : MemberKind). IsSome (next found.0 kind)) (sym int) (goes found.0)
+at_def-IsSome vars graph None next int goes = refl
+at_def-IsSome vars graph (Some def) next int goes = subst (λ (kind : MemberKind). IsSome (next kind)) (sym int) goes
+
+at_number-IsSome : (schema : Schema) (vars : Vars) (graph : Graph) (ty : TypeNo) (o : Option MemberNo) (next : MemberNo → MemberKind → Option Stepped) → HasIntMembers schema → ((number : MemberNo) → IsSome (next number kinds.Int)) → IsSome (at_number schema vars graph ty o next)
+at_number-IsSome schema vars graph ty None next ints goes = refl
+at_number-IsSome schema vars graph ty (Some number) next ints goes =
+    at_def-IsSome vars graph (member_at schema ty number) (next number) (slice_get-IfAny IsIntMember (members_of schema ty.0) number.0 (members_of-ints schema ty.0 ints)) (goes number)
 
 at_object-IsSome : (vars : Vars) (graph : Graph) (o : Option Object) (next : Object → Option Stepped) → ((object : Object) → IsSome (next object)) → IsSome (at_object vars graph o next)
 at_object-IsSome vars graph None next goes = refl
@@ -65,20 +73,18 @@ at_name-IsSome : (vars : Vars) (graph : Graph) (o : Option Name) (next : Name �
 at_name-IsSome vars graph None next goes = refl
 at_name-IsSome vars graph (Some name) next goes = at_object-IsSome vars graph (maps.get graph.objects name) (next name) (goes name)
 
-at_member-IsSome : (schema : Schema) (vars : Vars) (graph : Graph) (variable member : List ℕ) (next : Name → Object → ℕ → MemberKind → Option Stepped) → HasIntMembers schema → ((name : Name) (object : Object) (place : ℕ) → IsSome (next name object place kinds.Int)) → IsSome (at_member schema vars graph variable member next)
+at_member-IsSome : (schema : Schema) (vars : Vars) (graph : Graph) (variable member : List ℕ) (next : Name → Object → MemberNo → MemberKind → Option Stepped) → HasIntMembers schema → ((name : Name) (object : Object) (number : MemberNo) → IsSome (next name object number kinds.Int)) → IsSome (at_member schema vars graph variable member next)
 at_member-IsSome schema vars graph variable member next ints goes =
-    at_name-IsSome vars graph (maps.get vars variable) (λ name object. at_named vars graph (member_named (members_of schema object.ty) member) (next name object))
-    (λ name object. at_named-IsSome vars graph (member_named (members_of schema object.ty) member) (next name object)
-    (named_from-IfAny IsIntMember (λ def. def.name) member 0 (members_of schema object.ty) (members_in-ints schema.types (object.ty - 1) ints))
-    (goes name object))
+    at_name-IsSome vars graph (maps.get vars variable) (λ name object. at_number schema vars graph object.ty (member_named schema object.ty member) (next name object))
+    (λ name object. at_number-IsSome schema vars graph object.ty (member_named schema object.ty member) (next name object) ints (goes name object))
 
 -- a command of the grammar is described
 pub step-IsSome : (schema : Schema) (update : Bool) (vars : Vars) (graph : Graph) (command : Command) → HasIntMembers schema → IsBuiltCommand command → IsSome (step schema update vars graph command)
 step-IsSome schema update vars graph (New to ty segment) ints built = refl
 step-IsSome schema update vars graph (Get object member) ints built =
-    at_member-IsSome schema vars graph object member (λ name found place kind. get_of vars graph found place kind) ints (λ name found place. refl)
+    at_member-IsSome schema vars graph object member (λ name found number kind. get_of vars graph found number kind) ints (λ name found number. refl)
 step-IsSome schema true vars graph (Set object member (operands.Int value)) ints built =
-    at_member-IsSome schema vars graph object member (λ name found place kind. Some (set_int_of vars graph (values.Int value) name found place kind)) ints (λ name found place. refl)
+    at_member-IsSome schema vars graph object member (λ name found number kind. Some (set_int_of vars graph (values.Int value) name found number kind)) ints (λ name found number. refl)
 step-IsSome schema false vars graph (Set object member (operands.Int value)) ints built = refl
 step-IsSome schema update vars graph other ints built = absurd built
 

@@ -7,14 +7,16 @@ use Rattle.ostore_graph_model.specs.Orders.{name_cmp}
 use Rattle.ostore_graph_model.specs.Graph.{Graph, Object, empty_graph}
 use Rattle.ostore_graph_model.specs.Step.{Vars, Stepped, at_member}
 use Rattle.ostore_schema_layout.specs.declared.schema.Schema.{Schema}
+use Rattle.ostore_schema_layout.specs.declared.schema.MemberNo.{MemberNo}
 use Rattle.ostore_schema_layout.specs.declared.schema.MemberKind.{MemberKind}
+use Rattle.ostore_schema_layout.specs.Numbers.{member_of_place}
 use Rattle.ostore_cli.specs.declared.plain.lookup.Found.{Found}
 use Rattle.ostore_cli.specs.declared.plain.graph.PlainObject.{PlainObject}
 use Rattle.ostore_cli.specs.declared.plain.graph.PlainGraph.{PlainGraph}
 use Rattle.ostore_cli.specs.declared.plain.vars.PlainVars.{PlainVars}
 
 abbrev pub object_of : PlainObject → Object
-object_of object = record { ty = object.ty; values = object.values.items }
+object_of object = record { ty = record { 0 = object.ty }; values = object.values.items }
 
 abbrev pub entry_of : (Name × PlainObject) → (Name × Object)
 entry_of entry = (entry.0, object_of entry.1)
@@ -38,4 +40,4 @@ pub record IsFound (schema : Schema) (vars : PlainVars) (graph : PlainGraph) (va
   pub object : PlainObject
   pub first : Some found.place ≡ position (λ entry. eq_by_cmp name_cmp found.name entry.0) graph.objects.items
   pub entry : slice_get graph.objects.items found.place ≡ Some (found.name, object)
-  pub next : (go : Name → Object → ℕ → MemberKind → Option Stepped) → at_member schema (vars_of vars) (graph_of graph) variable member go ≡ go found.name (object_of object) found.member found.kind
+  pub next : (go : Name → Object → MemberNo → MemberKind → Option Stepped) → at_member schema (vars_of vars) (graph_of graph) variable member go ≡ go found.name (object_of object) (member_of_place found.member) found.kind

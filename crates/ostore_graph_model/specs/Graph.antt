@@ -3,14 +3,15 @@ use Rattle.std.specs.Prelude.{ℕ, Bool, List, unwrap_or}
 use Rattle.std.specs.Ordering.{nat_cmp}
 use Rattle.std.specs.FinMap as map
 use Rattle.std.specs.FinSet as set
+use Rattle.ostore_schema_layout.specs.declared.schema.TypeNo.{TypeNo}
 use Rattle.ostore_graph_model.specs.declared.values.Name.{Name}
 use Rattle.ostore_graph_model.specs.declared.values.Value.{Value}
 use Rattle.ostore_graph_model.specs.Orders.{text_cmp, name_cmp, key_cmp, pair_cmp, place_cmp, index_cmp}
 
--- A live object: its type's number, and for each member in order its value, which is an Int or a Text
+-- A live object: its type, and for each member in order its value, which is an Int or a Text
 -- for an int or a text member, and Null for a member of another kind.
 pub record Object : Type 0 where
-  pub ty : ℕ
+  pub ty : TypeNo
   pub values : List Value
 
 -- the bindings of names of any kind to objects

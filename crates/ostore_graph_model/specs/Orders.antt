@@ -4,6 +4,8 @@ use Rattle.std.specs.declared.cmp.Ordering.{Ordering}
 use Rattle.std.specs.declared.cmp.Ordering.TheVariants.{Less, Greater}
 use Rattle.std.specs.Ordering.{nat_cmp, int_cmp, ordering_then}
 use Rattle.std.specs.Cmp.Lexicographic.{slice_cmp}
+use Rattle.ostore_schema_layout.specs.declared.schema.TypeNo.{TypeNo}
+use Rattle.ostore_schema_layout.specs.declared.schema.MemberNo.{MemberNo}
 use Rattle.ostore_graph_model.specs.declared.values.Name.{Name}
 use Rattle.ostore_graph_model.specs.declared.commands.Key.{Key}
 use Rattle.ostore_graph_model.specs.declared.commands.Key.TheVariants as keys
@@ -23,13 +25,16 @@ key_cmp (keys.Int a) (keys.Text b) = Less
 key_cmp (keys.Text a) (keys.Int b) = Greater
 key_cmp (keys.Text a) (keys.Text b) = text_cmp a b
 
--- a member of a type: the type's number, from 1, and the member's place in it, from 0
+-- a member of a type
 pub record Side : Type 0 where
-  pub ty : ℕ
-  pub member : ℕ
+  pub ty : TypeNo
+  pub member : MemberNo
+
+abbrev pub member_cmp : MemberNo → MemberNo → Ordering
+member_cmp a b = nat_cmp a.0 b.0
 
 abbrev pub side_cmp : Side → Side → Ordering
-side_cmp a b = ordering_then (nat_cmp a.ty b.ty) (nat_cmp a.member b.member)
+side_cmp a b = ordering_then (nat_cmp a.ty.0 b.ty.0) (member_cmp a.member b.member)
 
 -- two objects that a link joins; the link goes by its first side, or its only one
 pub record Pair : Type 0 where
@@ -43,15 +48,15 @@ pair_cmp a b = ordering_then (side_cmp a.link b.link) (ordering_then (name_cmp a
 -- a member of one object
 pub record Place : Type 0 where
   pub object : Name
-  pub member : ℕ
+  pub member : MemberNo
 
 abbrev pub place_cmp : Place → Place → Ordering
-place_cmp a b = ordering_then (name_cmp a.object b.object) (nat_cmp a.member b.member)
+place_cmp a b = ordering_then (name_cmp a.object b.object) (member_cmp a.member b.member)
 
 -- a declared index: the set that it is on, and the members of its path
 pub record PathIndex : Type 0 where
   pub set : Place
-  pub path : List ℕ
+  pub path : List MemberNo
 
 abbrev pub index_cmp : PathIndex → PathIndex → Ordering
-index_cmp a b = ordering_then (place_cmp a.set b.set) (slice_cmp nat_cmp a.path b.path)
+index_cmp a b = ordering_then (place_cmp a.set b.set) (slice_cmp member_cmp a.path b.path)

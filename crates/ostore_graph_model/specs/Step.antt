@@ -1,14 +1,15 @@
 -- What one command does to a graph and to the variables of its transaction, and what it answers.
 -- The cases are those of `new`, of `get` of an int or a text, and of `set` to an int. For every other
 -- command `step` says nothing yet.
-use Rattle.std.specs.Prelude.{ℕ, ◌+◌, ◌-◌, Bool, List, [], ◌∷◌, map, Option, Some, None, unwrap_or, slice_get, slice_set, nat_lt, if◌then◌else◌, pos}
-use Rattle.std.specs.Str.{bytes_eq}
+use Rattle.std.specs.Prelude.{ℕ, ◌+◌, Bool, List, [], map, Option, Some, None, unwrap_or, slice_get, slice_set, nat_lt, if◌then◌else◌, pos}
 use Rattle.std.specs.FinMap as maps
 use Rattle.ostore_schema_layout.specs.declared.schema.Schema.{Schema}
-use Rattle.ostore_schema_layout.specs.declared.schema.TypeDef.{TypeDef}
+use Rattle.ostore_schema_layout.specs.declared.schema.TypeNo.{TypeNo}
+use Rattle.ostore_schema_layout.specs.declared.schema.MemberNo.{MemberNo}
 use Rattle.ostore_schema_layout.specs.declared.schema.MemberDef.{MemberDef}
 use Rattle.ostore_schema_layout.specs.declared.schema.MemberKind.{MemberKind}
 use Rattle.ostore_schema_layout.specs.declared.schema.MemberKind.TheVariants as kinds
+use Rattle.ostore_schema_layout.specs.Numbers.{members_of, member_at, type_named, member_named}
 use Rattle.ostore_graph_model.specs.declared.values.Name.{Name}
 use Rattle.ostore_graph_model.specs.declared.values.Value.{Value}
 use Rattle.ostore_graph_model.specs.declared.values.Value.TheVariants as values
@@ -36,29 +37,6 @@ pub record Stepped : Type 0 where
 abbrev pub refused : Refusal → Vars → Graph → Stepped
 refused refusal vars graph = record { reply = replies.Refused refusal; vars = vars; graph = graph }
 
--- ---- looking up in the schema
-
--- the first of a list that goes by this name, with its place, where the list's first has that place
-abbrev pub named_from : {X : Type 0} → (X → List ℕ) → List ℕ → ℕ → List X → Option (ℕ × X)
-named_from name_of name place [] = None
-named_from name_of name place (x ∷ xs) = if bytes_eq (name_of x) name then Some (place, x) else named_from name_of name (place + 1) xs
-
--- the type of this name, with its place
-abbrev pub type_named : Schema → List ℕ → Option (ℕ × TypeDef)
-type_named schema name = named_from (λ type_def. type_def.name) name 0 schema.types
-
--- the member of this name, with its place
-abbrev pub member_named : List MemberDef → List ℕ → Option (ℕ × MemberDef)
-member_named members name = named_from (λ member. member.name) name 0 members
-
-abbrev pub members_in : Option TypeDef → List MemberDef
-members_in None = []
-members_in (Some type_def) = type_def.members
-
--- the members of the type of this number
-abbrev pub members_of : Schema → ℕ → List MemberDef
-members_of schema ty = members_in (slice_get schema.types (ty - 1))
-
 -- ---- `new`
 
 -- what a member of a new object holds
@@ -67,9 +45,9 @@ first_value kinds.Int = values.Int (pos 0)
 first_value (kinds.Text max) = values.Text []
 first_value other = values.Null
 
--- a new object of a type that stands at a place in the schema
-abbrev pub new_object : ℕ → TypeDef → Object
-new_object place type_def = record { ty = place + 1; values = map (λ member. first_value member.kind) type_def.members }
+-- a new object of a type
+abbrev pub new_object : Schema → TypeNo → Object
+new_object schema ty = record { ty = ty; values = map (λ member. first_value member.kind) (members_of schema ty.0) }
 
 -- the last serial that a segment can draw
 abbrev pub greatest_serial : ℕ
@@ -90,10 +68,10 @@ drawn vars graph to segment object = record {
   };
 }
 
-abbrev pub new_of : Vars → Graph → List ℕ → ℕ → Option (ℕ × TypeDef) → Stepped
-new_of vars graph to segment None = refused WrongType vars graph
-new_of vars graph to segment (Some found) =
-    if nat_lt (last_serial graph segment) greatest_serial then drawn vars graph to segment (new_object found.0 found.1) else refused SerialsSpent vars graph
+abbrev pub new_of : Schema → Vars → Graph → List ℕ → ℕ → Option TypeNo → Stepped
+new_of schema vars graph to segment None = refused WrongType vars graph
+new_of schema vars graph to segment (Some ty) =
+    if nat_lt (last_serial graph segment) greatest_serial then drawn vars graph to segment (new_object schema ty) else refused SerialsSpent vars graph
 
 -- ---- reading a variable and a member
 
@@ -105,61 +83,65 @@ abbrev pub at_name : Vars → Graph → Option Name → (Name → Object → Opt
 at_name vars graph None next = Some (refused NoVariable vars graph)
 at_name vars graph (Some name) next = at_object vars graph (maps.get graph.objects name) (next name)
 
-abbrev pub at_named : Vars → Graph → Option (ℕ × MemberDef) → (ℕ → MemberKind → Option Stepped) → Option Stepped
-at_named vars graph None next = Some (refused NoMember vars graph)
-at_named vars graph (Some found) next = next found.0 found.1.kind
+abbrev pub at_def : Vars → Graph → Option MemberDef → (MemberKind → Option Stepped) → Option Stepped
+at_def vars graph None next = Some (refused NoMember vars graph)
+at_def vars graph (Some def) next = next def.kind
+
+abbrev pub at_number : Schema → Vars → Graph → TypeNo → Option MemberNo → (MemberNo → MemberKind → Option Stepped) → Option Stepped
+at_number schema vars graph ty None next = Some (refused NoMember vars graph)
+at_number schema vars graph ty (Some number) next = at_def vars graph (member_at schema ty number) (next number)
 
 -- A command on `$variable.member`: the variable is bound, its object is live and has the member. What
--- comes next is given the object's name, the object, the member's place and its kind.
-abbrev pub at_member : Schema → Vars → Graph → List ℕ → List ℕ → (Name → Object → ℕ → MemberKind → Option Stepped) → Option Stepped
+-- comes next is given the object's name, the object, the member and its kind.
+abbrev pub at_member : Schema → Vars → Graph → List ℕ → List ℕ → (Name → Object → MemberNo → MemberKind → Option Stepped) → Option Stepped
 at_member schema vars graph variable member next =
-    at_name vars graph (maps.get vars variable) (λ name object. at_named vars graph (member_named (members_of schema object.ty) member) (next name object))
+    at_name vars graph (maps.get vars variable) (λ name object. at_number schema vars graph object.ty (member_named schema object.ty member) (next name object))
 
 -- ---- `get`
 
--- the value at a place
-abbrev pub value_at : List Value → ℕ → Value
-value_at held place = unwrap_or (slice_get held place) values.Null
+-- the value of a member
+abbrev pub value_at : List Value → MemberNo → Value
+value_at held member = unwrap_or (slice_get held member.0) values.Null
 
-abbrev pub got : Vars → Graph → Object → ℕ → Stepped
-got vars graph object place = record { reply = replies.Value (value_at object.values place); vars = vars; graph = graph }
+abbrev pub got : Vars → Graph → Object → MemberNo → Stepped
+got vars graph object member = record { reply = replies.Value (value_at object.values member); vars = vars; graph = graph }
 
 -- an int and a text are shown; a set, a list and a dictionary can't be
-abbrev pub get_of : Vars → Graph → Object → ℕ → MemberKind → Option Stepped
-get_of vars graph object place kinds.Int = Some (got vars graph object place)
-get_of vars graph object place (kinds.Text max) = Some (got vars graph object place)
-get_of vars graph object place (kinds.Ref target) = None
-get_of vars graph object place (kinds.Set target) = Some (refused WrongKind vars graph)
-get_of vars graph object place (kinds.List target) = Some (refused WrongKind vars graph)
-get_of vars graph object place (kinds.DictInt target) = Some (refused WrongKind vars graph)
-get_of vars graph object place (kinds.DictText target) = Some (refused WrongKind vars graph)
+abbrev pub get_of : Vars → Graph → Object → MemberNo → MemberKind → Option Stepped
+get_of vars graph object member kinds.Int = Some (got vars graph object member)
+get_of vars graph object member (kinds.Text max) = Some (got vars graph object member)
+get_of vars graph object member (kinds.Ref target) = None
+get_of vars graph object member (kinds.Set target) = Some (refused WrongKind vars graph)
+get_of vars graph object member (kinds.List target) = Some (refused WrongKind vars graph)
+get_of vars graph object member (kinds.DictInt target) = Some (refused WrongKind vars graph)
+get_of vars graph object member (kinds.DictText target) = Some (refused WrongKind vars graph)
 
 -- ---- `set`
 
--- the object has another value at the place
-abbrev pub with_value : Object → ℕ → Value → Object
-with_value object place value = record object { values = slice_set object.values place value }
+-- the object has another value of a member
+abbrev pub with_value : Object → MemberNo → Value → Object
+with_value object member value = record object { values = slice_set object.values member.0 value }
 
-abbrev pub stored : Vars → Graph → Name → Object → ℕ → Value → Stepped
-stored vars graph name object place value = record {
+abbrev pub stored : Vars → Graph → Name → Object → MemberNo → Value → Stepped
+stored vars graph name object member value = record {
   reply = replies.Done;
   vars = vars;
-  graph = record graph { objects = maps.insert graph.objects name (with_value object place value) };
+  graph = record graph { objects = maps.insert graph.objects name (with_value object member value) };
 }
 
 -- only an int member takes an int
-abbrev pub set_int_of : Vars → Graph → Value → Name → Object → ℕ → MemberKind → Stepped
-set_int_of vars graph value name object place kinds.Int = stored vars graph name object place value
-set_int_of vars graph value name object place other = refused WrongKind vars graph
+abbrev pub set_int_of : Vars → Graph → Value → Name → Object → MemberNo → MemberKind → Stepped
+set_int_of vars graph value name object member kinds.Int = stored vars graph name object member value
+set_int_of vars graph value name object member other = refused WrongKind vars graph
 
 -- ---- a command
 
 -- None where the command, or what it does to such a member, isn't described yet
 abbrev pub step : Schema → Bool → Vars → Graph → Command → Option Stepped
 step schema update vars graph (New to ty segment) =
-    Some (if update then new_of vars graph to segment (type_named schema ty) else refused ReadOnly vars graph)
+    Some (if update then new_of schema vars graph to segment (type_named schema ty) else refused ReadOnly vars graph)
 step schema update vars graph (Get object member) =
-    at_member schema vars graph object member (λ name found place kind. get_of vars graph found place kind)
+    at_member schema vars graph object member (λ name found number kind. get_of vars graph found number kind)
 step schema update vars graph (Set object member (operands.Int value)) =
-    if update then at_member schema vars graph object member (λ name found place kind. Some (set_int_of vars graph (values.Int value) name found place kind)) else Some (refused ReadOnly vars graph)
+    if update then at_member schema vars graph object member (λ name found number kind. Some (set_int_of vars graph (values.Int value) name found number kind)) else Some (refused ReadOnly vars graph)
 step schema update vars graph other = None

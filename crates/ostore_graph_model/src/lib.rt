@@ -4,8 +4,10 @@
 
 mod commands;
 mod history;
+mod laws;
 mod values;
 
 pub use commands::{Command, Commands, Idents, Key, Op, Operand, Script, Txn, TxnLists, Txns};
 pub use history::{Committed, Entry};
+pub use laws::names_are_ordered;
 pub use values::{Listed, Name, Names, Refusal, Replies, Reply, Value};

@@ -16,7 +16,7 @@ abbrev pub first_named : {X : Type 0} → (X → List ℕ) → List X → List �
 first_named name_of xs name = find (λ x. bytes_eq (name_of x) name) xs
 
 -- and its place, from 0
-abbrev pub place_named : {X : Type 0} → (X → List ℕ) → List X → List ℕ → Option ℕ
+unfoldable pub place_named : {X : Type 0} → (X → List ℕ) → List X → List ℕ → Option ℕ
 place_named name_of xs name = position (λ x. bytes_eq (name_of x) name) xs
 
 -- ---- by number

@@ -21,6 +21,7 @@ pub fn first_named<'a, X: Named>(list: &'a [X], name: &[u8]) -> Option<&'a X>
 }
 
 /// Its place, from 0.
+#[tactic(auto, unfolding(crate::specs::Numbers::place_named))]
 pub fn place_named<X: Named>(list: &[X], name: &[u8]) -> Option<usize>
     ensures place { result ≡ place_named X.name_of list.now name.now }
     ensures within { IfSome result (λ place. place < length list.now) }

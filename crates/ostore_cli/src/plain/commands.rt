@@ -4,17 +4,18 @@ ghost use Rattle.std.specs.Prelude.{◌≡◌, ◌+◌, ◌^◌, ◌<◌, length
 ghost use Rattle.std.specs.Ordering.{eq_by_cmp};
 ghost use Rattle.ostore_graph_model.specs.Orders.{name_cmp};
 ghost use Rattle.ostore_graph_model.specs.Graph.{last_serial};
-ghost use Rattle.ostore_graph_model.specs.Step.{Vars, step, new_of, first_value, type_named, value_at, drawn, greatest_serial, at_member, get_of, set_int_of};
+ghost use Rattle.ostore_schema_layout.specs.Numbers.{type_named, type_of_place, member_of_place};
+ghost use Rattle.ostore_graph_model.specs.Step.{Vars, step, new_of, first_value, value_at, drawn, greatest_serial, at_member, get_of, set_int_of};
 ghost use Rattle.ostore_cli.specs.declared.plain.graph.PlainObject.{PlainObject};
 ghost use Rattle.ostore_cli.specs.Plain.{graph_of, vars_of, object_of};
 
 use crate::plain::graph::{PlainGraph, PlainObject, put_member, put_object, put_serial};
-use crate::plain::lookup::{Found, find_place, find_type};
+use crate::plain::lookup::{Found, find_place, type_members};
 use crate::plain::stop::Stop;
 use crate::plain::vars::PlainVars;
 use ostore_base::{OutOfMemory, Text};
 use ostore_graph_model::{Command, Name, Operand, Refusal, Reply, Value};
-use ostore_schema_layout::{MemberDef, MemberKind, Schema, TypeDef};
+use ostore_schema_layout::{MemberDef, MemberKind, Schema, place_named};
 use std::alloc::Global;
 
 /// What a member of a new object holds.
@@ -56,9 +57,9 @@ fn copy_value(value: &Value) -> Result<Value, OutOfMemory>
     }
 }
 
-/// The value at a place, and Null where there is none.
+/// The value of the member at a place, and Null where there is none.
 fn value_at_place(values: &[Value], place: usize) -> Result<Value, OutOfMemory>
-    ensures { IfOk result (λ value. value ≡ value_at values.now place) }
+    ensures { IfOk result (λ value. value ≡ value_at values.now (member_of_place place)) }
 {
     match values.get(place) {
         Some(value) => copy_value(value),
@@ -88,24 +89,22 @@ fn draw(
 /// Makes an object of a type that is known, unless its segment has drawn its last serial.
 fn new_of_type(
     alloc: Global,
+    schema: &Schema,
     graph: &mut PlainGraph,
     vars: &mut PlainVars,
     to: &Text,
     segment: u8,
     place: usize,
-    type_def: &TypeDef,
 ) -> Result<Reply, OutOfMemory>
     requires { place + 1 < 2 ^ 64 }
-    ensures { IfOk result (λ reply. new_of (vars_of vars.old) (graph_of graph.old) to.now segment (Some (place, type_def.now)) ≡ record { reply = reply; vars = vars_of vars.new; graph = graph_of graph.new }) }
+    ensures { IfOk result (λ reply. new_of schema.now (vars_of vars.old) (graph_of graph.old) to.now segment (Some (type_of_place place)) ≡ record { reply = reply; vars = vars_of vars.new; graph = graph_of graph.new }) }
 {
     if graph.last_serial(segment) == u32::MAX {
         return Ok(Reply::Refused(Refusal::SerialsSpent));
     }
-    let values = initial_values(alloc, type_def.members.items())?;
-    let object = PlainObject {
-        ty: place + 1,
-        values,
-    };
+    let ty = place + 1;
+    let values = initial_values(alloc, type_members(schema, ty))?;
+    let object = PlainObject { ty, values };
     draw(graph, vars, to, segment, object)
 }
 
@@ -119,10 +118,10 @@ fn run_new(
     ty: &Text,
     segment: u8,
 ) -> Result<Reply, OutOfMemory>
-    ensures { IfOk result (λ reply. new_of (vars_of vars.old) (graph_of graph.old) to.now segment (type_named schema.now ty.now) ≡ record { reply = reply; vars = vars_of vars.new; graph = graph_of graph.new }) }
+    ensures { IfOk result (λ reply. new_of schema.now (vars_of vars.old) (graph_of graph.old) to.now segment (type_named schema.now ty.now) ≡ record { reply = reply; vars = vars_of vars.new; graph = graph_of graph.new }) }
 {
-    match find_type(schema.types.items(), ty) {
-        Some((place, type_def)) => new_of_type(alloc, graph, vars, to, segment, place, type_def),
+    match place_named(schema.types.items(), ty.bytes()) {
+        Some(place) => new_of_type(alloc, schema, graph, vars, to, segment, place),
         None => Ok(Reply::Refused(Refusal::WrongType)),
     }
 }
@@ -130,8 +129,8 @@ fn run_new(
 /// `get` of a member that was found
 fn get_found(graph: &PlainGraph, found: Found) -> Result<Reply, Stop>
     requires { found.place < length graph.now.objects.items }
-    ensures ok { (vars : Vars) (object : PlainObject) → slice_get graph.now.objects.items found.place ≡ Some (found.name, object) → IfOk result (λ reply. get_of vars (graph_of graph.now) (object_of object) found.member found.kind ≡ Some (record { reply = reply; vars = vars; graph = graph_of graph.now })) }
-    ensures not_built { (vars : Vars) (object : PlainObject) → IsErrOf result Stop.NotBuilt → get_of vars (graph_of graph.now) (object_of object) found.member found.kind ≡ None }
+    ensures ok { (vars : Vars) (object : PlainObject) → slice_get graph.now.objects.items found.place ≡ Some (found.name, object) → IfOk result (λ reply. get_of vars (graph_of graph.now) (object_of object) (member_of_place found.member) found.kind ≡ Some (record { reply = reply; vars = vars; graph = graph_of graph.now })) }
+    ensures not_built { (vars : Vars) (object : PlainObject) → IsErrOf result Stop.NotBuilt → get_of vars (graph_of graph.now) (object_of object) (member_of_place found.member) found.kind ≡ None }
 {
     let (_, object) = &graph.objects[found.place];
     match found.kind {
@@ -155,8 +154,8 @@ fn run_get(
     object: &Text,
     member: &Text,
 ) -> Result<Reply, Stop>
-    ensures ok { IfOk result (λ reply. at_member schema.now (vars_of vars.now) (graph_of graph.now) object.now member.now (λ name found place kind. get_of (vars_of vars.now) (graph_of graph.now) found place kind) ≡ Some (record { reply = reply; vars = vars_of vars.now; graph = graph_of graph.now })) }
-    ensures not_built { IsErrOf result Stop.NotBuilt → at_member schema.now (vars_of vars.now) (graph_of graph.now) object.now member.now (λ name found place kind. get_of (vars_of vars.now) (graph_of graph.now) found place kind) ≡ None }
+    ensures ok { IfOk result (λ reply. at_member schema.now (vars_of vars.now) (graph_of graph.now) object.now member.now (λ name found number kind. get_of (vars_of vars.now) (graph_of graph.now) found number kind) ≡ Some (record { reply = reply; vars = vars_of vars.now; graph = graph_of graph.now })) }
+    ensures not_built { IsErrOf result Stop.NotBuilt → at_member schema.now (vars_of vars.now) (graph_of graph.now) object.now member.now (λ name found number kind. get_of (vars_of vars.now) (graph_of graph.now) found number kind) ≡ None }
 {
     match find_place(schema, graph, vars, object, member) {
         Ok(found) => get_found(graph, found),
@@ -167,7 +166,7 @@ fn run_get(
 /// `set` of a member that was found to a whole number
 fn set_found(graph: &mut PlainGraph, found: Found, value: i64) -> Reply
     requires { found.place < length graph.old.objects.items }
-    ensures { (vars : Vars) (object : PlainObject) → Some found.place ≡ position (λ entry. eq_by_cmp name_cmp found.name entry.0) graph.old.objects.items → slice_get graph.old.objects.items found.place ≡ Some (found.name, object) → set_int_of vars (graph_of graph.old) (Value.Int value) found.name (object_of object) found.member found.kind ≡ record { reply = result; vars = vars; graph = graph_of graph.new } }
+    ensures { (vars : Vars) (object : PlainObject) → Some found.place ≡ position (λ entry. eq_by_cmp name_cmp found.name entry.0) graph.old.objects.items → slice_get graph.old.objects.items found.place ≡ Some (found.name, object) → set_int_of vars (graph_of graph.old) (Value.Int value) found.name (object_of object) (member_of_place found.member) found.kind ≡ record { reply = result; vars = vars; graph = graph_of graph.new } }
 {
     match found.kind {
         MemberKind::Int => {
@@ -192,7 +191,7 @@ fn set_int(
     member: &Text,
     value: i64,
 ) -> Reply
-    ensures { at_member schema.now (vars_of vars.now) (graph_of graph.old) object.now member.now (λ name found place kind. Some (set_int_of (vars_of vars.now) (graph_of graph.old) (Value.Int value) name found place kind)) ≡ Some (record { reply = result; vars = vars_of vars.now; graph = graph_of graph.new }) }
+    ensures { at_member schema.now (vars_of vars.now) (graph_of graph.old) object.now member.now (λ name found number kind. Some (set_int_of (vars_of vars.now) (graph_of graph.old) (Value.Int value) name found number kind)) ≡ Some (record { reply = result; vars = vars_of vars.now; graph = graph_of graph.new }) }
 {
     match find_place(schema, graph, vars, object, member) {
         Ok(found) => set_found(graph, found, value),

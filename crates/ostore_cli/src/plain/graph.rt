@@ -6,6 +6,7 @@ ghost use Rattle.std.specs.FinMap as maps;
 ghost use Rattle.std.specs.Ordering.{eq_by_cmp, nat_cmp};
 ghost use Rattle.ostore_graph_model.specs.Orders.{name_cmp};
 ghost use Rattle.ostore_graph_model.specs.Graph.{empty_graph, last_serial};
+ghost use Rattle.ostore_schema_layout.specs.Numbers.{member_of_place};
 ghost use Rattle.ostore_graph_model.specs.Step.{with_value};
 ghost use Rattle.ostore_graph_model.specs.declared.values.Name.{Name};
 ghost use Rattle.ostore_cli.specs.declared.plain.graph.PlainObject.{PlainObject};
@@ -112,7 +113,7 @@ pub(crate) fn put_member(
     value: Value,
 )
     requires { place < length objects.old.items }
-    ensures { (other : Name × PlainObject) → let entry = slice_index_or objects.old.items place other in map entry_of objects.new.items ≡ slice_set (map entry_of objects.old.items) place (entry.0, with_value (object_of entry.1) member value) }
+    ensures { (other : Name × PlainObject) → let entry = slice_index_or objects.old.items place other in map entry_of objects.new.items ≡ slice_set (map entry_of objects.old.items) place (entry.0, with_value (object_of entry.1) (member_of_place member) value) }
 {
     put_value(&mut objects[place].1.values, member, value);
 }

@@ -1,9 +1,10 @@
 use Rattle.std.proofs.Common.{ap}
 use Rattle.std.specs.Str.{bytes_eq}
 use Rattle.ostore_schema_layout.specs.declared.declarations.TypeDeclaration.{TypeDeclaration}
-use Rattle.ostore_schema_layout.specs.Numbers.{type_of_place}
+use Rattle.ostore_schema_layout.specs.Numbers.{place_named, type_of_place}
 use Rattle.ostore_schema_layout.proofs.Numbering.{place_or_length}
 use Rattle.ostore_schema_layout.proofs.reading.resolving.type_number.Goals as goal
 
 pub returns : goal.returns
+unfolding place_named
 returns c = ap type_of_place (place_or_length (λ (ty : TypeDeclaration). bytes_eq ty.name.name c.args.name.now) c.args.types.now c.place_named.result c.unwrap_or-place.result c.place_named.ensures.place c.unwrap_or-place.ensures)

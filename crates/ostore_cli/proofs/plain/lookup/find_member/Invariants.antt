@@ -1,6 +1,0 @@
-use Rattle.std.proofs.Common.{◌≡◌, drop}
-use Rattle.ostore_graph_model.specs.Step.{named_from}
-use Rattle.ostore_cli.proofs.plain.lookup.find_member.Given as goal
-
-abbrev pub invariant-loop-place : goal.invariant-loop-place
-invariant-loop-place l = named_from (λ member. member.name) l.name l.place (drop l.place l.members) ≡ named_from (λ member. member.name) l.name 0 l.members
