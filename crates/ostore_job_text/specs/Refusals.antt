@@ -1,12 +1,12 @@
 -- The line that is printed for a text that is refused.
-use Rattle.std.specs.Prelude.{ℕ, List, ◌++◌, codes, decimal, Option, Some, None}
+use Rattle.std.specs.Prelude.{ℕ, List, ◌++◌, codes, Option, Some, None}
 use Rattle.ostore_schema_layout.specs.declared.fault.SchemaFault.{SchemaFault}
-use Rattle.ostore_schema_layout.specs.Titles.{fault_title, fault_place}
+use Rattle.ostore_schema_layout.specs.Titles.{fault_text}
 use Rattle.ostore_job_text.specs.Spelling.{schema_fault}
 
 -- `schema fault NUMBER NAME at PLACE`
 abbrev pub fault_line : SchemaFault → List ℕ
-fault_line fault = codes "schema fault " ++ fault_title fault ++ codes " at " ++ decimal (fault_place fault) ++ codes "\n"
+fault_line fault = fault_text fault ++ codes "\n"
 
 -- the fault of the schema's part where there is one
 abbrev pub line_of_fault : Option SchemaFault → List ℕ

@@ -13,7 +13,9 @@ pub fn print_schema_fault(alloc: Global, fault: &SchemaFault) -> Result<Text, Ou
     ensures { IfOk result (λ line. line ≡ fault_line fault.now) }
 {
     let mut line = Text::from_bytes(alloc, b"schema fault ")?;
-    line.push_bytes(fault.title())?;
+    push_number(&mut line, fault.number())?;
+    line.push_bytes(b" ")?;
+    line.push_bytes(fault.name().as_bytes())?;
     line.push_bytes(b" at ")?;
     push_number(&mut line, fault.place() as u64)?;
     line.push_bytes(b"\n")?;
