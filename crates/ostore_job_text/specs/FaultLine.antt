@@ -1,15 +1,16 @@
 -- The line that is printed for a text that is refused.
 use Rattle.std.specs.Prelude.{ℕ, List, ◌++◌, codes, decimal, Option, Some, None}
 use Rattle.ostore_schema_layout.specs.declared.fault.SchemaFault.{SchemaFault}
-use Rattle.ostore_schema_layout.specs.Titles.{fault_title, fault_place}
+use Rattle.ostore_schema_layout.specs.Titles.{fault_number, fault_name, fault_place}
 use Rattle.ostore_job_text.specs.Spelling.{schema_fault}
 
--- `WORD fault NUMBER NAME at PLACE`, of which a title is the number and the name
-abbrev pub fault_at_place : List ℕ → List ℕ → ℕ → List ℕ
-fault_at_place word title place = word ++ codes " fault " ++ title ++ codes " at " ++ decimal place ++ codes "\n"
+-- `WORD fault NUMBER NAME at PLACE`
+abbrev pub fault_at_place : List ℕ → ℕ → List ℕ → ℕ → List ℕ
+fault_at_place word number name place =
+    word ++ codes " fault " ++ decimal number ++ codes " " ++ name ++ codes " at " ++ decimal place ++ codes "\n"
 
 abbrev pub fault_line : SchemaFault → List ℕ
-fault_line fault = fault_at_place (codes "schema") (fault_title fault) (fault_place fault)
+fault_line fault = fault_at_place (codes "schema") (fault_number fault) (fault_name fault) (fault_place fault)
 
 -- the fault of the schema's part where there is one
 abbrev pub line_of_fault : Option SchemaFault → List ℕ

@@ -1,6 +1,6 @@
 -- The order of faults: by their places, and at one place by their numbers.
 use Rattle.ostore_text_words.specs.Lines.{lines_of, utf8_fault}
-use Rattle.ostore_schema_layout.specs.Titles.{fault_place}
+use Rattle.ostore_schema_layout.specs.Titles.{fault_number, fault_place}
 use Rattle.ostore_schema_layout.specs.declared.declarations.TypeDeclaration.{TypeDeclaration}
 use Rattle.ostore_schema_layout.specs.Limits.{longest_schema}
 use Rattle.ostore_schema_layout.specs.Declaring.{declared_by}
@@ -8,21 +8,6 @@ use Rattle.ostore_schema_layout.specs.Faults.{faults_of}
 use Rattle.std.specs.Prelude.{◌≡◌, ◌⊎◌, ℕ, ◌<◌, ◌≤◌, List, length, None, Ok, Contains}
 use Rattle.std.specs.List.{AllByRecursion}
 use Rattle.ostore_schema_layout.specs.declared.fault.SchemaFault.{SchemaFault}
-use Rattle.ostore_schema_layout.specs.declared.fault.SchemaFault.TheVariants.{Syntax, DuplicateType, DuplicateMember, UnknownType, InverseMismatch, CellTooLarge, TooManyTypes, TooManyMembers, TooLong, NotUtf8, OutOfMemory}
-
--- the number of a fault, which its message says
-abbrev pub fault_number : SchemaFault → ℕ
-fault_number (Syntax at) = 1
-fault_number (DuplicateType at) = 2
-fault_number (DuplicateMember at) = 3
-fault_number (UnknownType at) = 4
-fault_number (InverseMismatch at) = 5
-fault_number (CellTooLarge at) = 6
-fault_number (TooManyTypes at) = 7
-fault_number (TooManyMembers at) = 8
-fault_number (TooLong at) = 9
-fault_number (NotUtf8 at) = 10
-fault_number OutOfMemory = 0
 
 -- a fault is before another: it stands before it, or at its place with a lesser number
 abbrev pub IsBefore : SchemaFault → SchemaFault → Type 0

@@ -1,70 +1,77 @@
 //! What is wrong with a schema's text.
 
-ghost use Rattle.std.specs.Prelude.{◌≡◌};
-ghost use Rattle.ostore_schema_layout.specs.Titles.{fault_title, fault_place};
+ghost use Rattle.std.specs.Prelude.{◌≡◌, Some};
+ghost use Rattle.ostore_schema_layout.specs.Titles.{fault_name, fault_number, fault_place, fault_text};
 ghost use Rattle.ostore_schema_layout.specs.declared.fault.SchemaFault.TheVariants.{OutOfMemory as Memory};
 
 use ostore_base::OutOfMemory;
-use std::alloc::{AllocError, AllocFailed};
-use thiserror::Error;
+use std::fmt;
 
 /// Why a text is no schema, and where: `at` counts the text's bytes from 0. TooLong is judged first, then
 /// NotUtf8, then Syntax; of the others the one with the least place is answered, and at one place the one
 /// that stands first here.
-#[derive(Clone, Copy, Debug, PartialEq, Eq, Error)]
+#[derive(Clone, Copy, Debug, PartialEq, Eq)]
 pub enum SchemaFault {
     /// A word can't stand there, or is missing at the end of a line.
-    #[error("schema fault 1 Syntax at {at}")]
     Syntax { at: usize },
     /// A type has the name of an earlier one.
-    #[error("schema fault 2 DuplicateType at {at}")]
     DuplicateType { at: usize },
     /// A member has the name of an earlier one of its type.
-    #[error("schema fault 3 DuplicateMember at {at}")]
     DuplicateMember { at: usize },
     /// A member names a type that is declared nowhere.
-    #[error("schema fault 4 UnknownType at {at}")]
     UnknownType { at: usize },
     /// An inverse isn't the other side of its member's link.
-    #[error("schema fault 5 InverseMismatch at {at}")]
     InverseMismatch { at: usize },
     /// The members of a type take more than 1,000 bytes. The place is the type's name.
-    #[error("schema fault 6 CellTooLarge at {at}")]
     CellTooLarge { at: usize },
     /// There are 64 types before this one.
-    #[error("schema fault 7 TooManyTypes at {at}")]
     TooManyTypes { at: usize },
     /// There are 32 members of the type before this one.
-    #[error("schema fault 8 TooManyMembers at {at}")]
     TooManyMembers { at: usize },
     /// The text has more than 32,764 bytes.
-    #[error("schema fault 9 TooLong at {at}")]
     TooLong { at: usize },
     /// The bytes from here on are no UTF-8.
-    #[error("schema fault 10 NotUtf8 at {at}")]
     NotUtf8 { at: usize },
     /// Memory was wanted and refused.
-    #[error("out of memory")]
     OutOfMemory,
 }
 
 impl SchemaFault {
-    /// The fault's number and name, as they are printed: `4 UnknownType`.
-    pub fn title(&self) -> &'static [u8]
-        ensures { result.now ≡ fault_title self.now }
+    /// The fault's number, 1 to 10. Want of memory has none, and 0 is answered.
+    pub fn number(&self) -> u64
+        ensures { result ≡ fault_number self.now }
     {
         match self {
-            SchemaFault::Syntax { .. } => b"1 Syntax",
-            SchemaFault::DuplicateType { .. } => b"2 DuplicateType",
-            SchemaFault::DuplicateMember { .. } => b"3 DuplicateMember",
-            SchemaFault::UnknownType { .. } => b"4 UnknownType",
-            SchemaFault::InverseMismatch { .. } => b"5 InverseMismatch",
-            SchemaFault::CellTooLarge { .. } => b"6 CellTooLarge",
-            SchemaFault::TooManyTypes { .. } => b"7 TooManyTypes",
-            SchemaFault::TooManyMembers { .. } => b"8 TooManyMembers",
-            SchemaFault::TooLong { .. } => b"9 TooLong",
-            SchemaFault::NotUtf8 { .. } => b"10 NotUtf8",
-            SchemaFault::OutOfMemory => b"out of memory",
+            SchemaFault::Syntax { .. } => 1,
+            SchemaFault::DuplicateType { .. } => 2,
+            SchemaFault::DuplicateMember { .. } => 3,
+            SchemaFault::UnknownType { .. } => 4,
+            SchemaFault::InverseMismatch { .. } => 5,
+            SchemaFault::CellTooLarge { .. } => 6,
+            SchemaFault::TooManyTypes { .. } => 7,
+            SchemaFault::TooManyMembers { .. } => 8,
+            SchemaFault::TooLong { .. } => 9,
+            SchemaFault::NotUtf8 { .. } => 10,
+            SchemaFault::OutOfMemory => 0,
+        }
+    }
+
+    /// The fault's name.
+    pub fn name(&self) -> &'static str
+        ensures { result.now ≡ fault_name self.now }
+    {
+        match self {
+            SchemaFault::Syntax { .. } => "Syntax",
+            SchemaFault::DuplicateType { .. } => "DuplicateType",
+            SchemaFault::DuplicateMember { .. } => "DuplicateMember",
+            SchemaFault::UnknownType { .. } => "UnknownType",
+            SchemaFault::InverseMismatch { .. } => "InverseMismatch",
+            SchemaFault::CellTooLarge { .. } => "CellTooLarge",
+            SchemaFault::TooManyTypes { .. } => "TooManyTypes",
+            SchemaFault::TooManyMembers { .. } => "TooManyMembers",
+            SchemaFault::TooLong { .. } => "TooLong",
+            SchemaFault::NotUtf8 { .. } => "NotUtf8",
+            SchemaFault::OutOfMemory => "OutOfMemory",
         }
     }
 
@@ -88,26 +95,24 @@ impl SchemaFault {
     }
 }
 
+/// Writes `schema fault`, the number, the name and the place.
+impl fmt::Display for SchemaFault {
+    ghost output = { λ fault. Some (fault_text fault) };
+
+    fn fmt<W: fmt::Write>(&self, f: &mut fmt::Formatter<W>) -> fmt::Result {
+        let number = self.number();
+        let name = self.name();
+        let place = self.place();
+        write!(f, "schema fault {number} {name} at {place}")
+    }
+}
+
+impl std::error::Error for SchemaFault {}
+
 impl From<OutOfMemory> for SchemaFault {
     ghost from_gives = { λ _ fault. fault ≡ Memory };
 
     fn from(_refused: OutOfMemory) -> SchemaFault {
-        SchemaFault::OutOfMemory
-    }
-}
-
-impl From<AllocError> for SchemaFault {
-    ghost from_gives = { λ _ fault. fault ≡ Memory };
-
-    fn from(_refused: AllocError) -> SchemaFault {
-        SchemaFault::OutOfMemory
-    }
-}
-
-impl<T: Drop> From<AllocFailed<T>> for SchemaFault {
-    ghost from_gives = { λ _ fault. fault ≡ Memory };
-
-    fn from(_refused: AllocFailed<T>) -> SchemaFault {
         SchemaFault::OutOfMemory
     }
 }

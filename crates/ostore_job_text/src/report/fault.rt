@@ -8,13 +8,21 @@ use ostore_base::{OutOfMemory, Text};
 use ostore_schema_layout::SchemaFault;
 use std::alloc::Global;
 
-/// The line `WORD fault NUMBER NAME at PLACE`, with its newline. The title is the fault's number and name.
-fn print_fault(alloc: Global, word: &[u8], title: &[u8], place: u64) -> Result<Text, OutOfMemory>
-    ensures { IfOk result (λ line. line ≡ fault_at_place word.now title.now place) }
+/// The line `WORD fault NUMBER NAME at PLACE`, with its newline.
+fn print_fault(
+    alloc: Global,
+    word: &[u8],
+    number: u64,
+    name: &str,
+    place: u64,
+) -> Result<Text, OutOfMemory>
+    ensures { IfOk result (λ line. line ≡ fault_at_place word.now number name.now place) }
 {
     let mut line = Text::from_bytes(alloc, word)?;
     line.push_bytes(b" fault ")?;
-    line.push_bytes(title)?;
+    push_number(&mut line, number)?;
+    line.push_bytes(b" ")?;
+    line.push_bytes(name.as_bytes())?;
     line.push_bytes(b" at ")?;
     push_number(&mut line, place)?;
     line.push_bytes(b"\n")?;
@@ -25,5 +33,6 @@ fn print_fault(alloc: Global, word: &[u8], title: &[u8], place: u64) -> Result<T
 pub fn print_schema_fault(alloc: Global, fault: &SchemaFault) -> Result<Text, OutOfMemory>
     ensures { IfOk result (λ line. line ≡ fault_line fault.now) }
 {
-    print_fault(alloc, b"schema", fault.title(), fault.place() as u64)
+    let place = fault.place() as u64;
+    print_fault(alloc, b"schema", fault.number(), fault.name(), place)
 }
