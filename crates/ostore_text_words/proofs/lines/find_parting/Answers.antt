@@ -1,5 +1,4 @@
 use Rattle.std.proofs.Common.{◌≡◌, ◌∙◌, None, Some, ap, sym, arith}
-use Rattle.std.specs.List.{find}
 use Rattle.std.specs.Option.{option_map}
 use Rattle.ostore_text_words.specs.Lines.{is_parting, around_line, line_bytes}
 use Rattle.ostore_text_words.specs.inside.LineWalk.{seen_bytes}

@@ -1,8 +1,6 @@
-use Rattle.std.proofs.Common.{◌≡◌, ◌++◌, ◌+◌, length, refl, subst, List, sym, arith}
-use Rattle.ostore_text_words.specs.Lines.{PlacedBytes, lines_of}
-use Rattle.ostore_text_words.specs.Seen.{seen_word, seen_lines}
-use Rattle.ostore_text_words.specs.inside.LineWalk.{seen_bytes, lines_left}
-use Rattle.ostore_text_words.proofs.LineReaders.{worded, worded_all, line_met, lines_end, lines_within, next_within}
+use Rattle.std.proofs.Common.{refl, arith}
+use Rattle.ostore_text_words.specs.inside.LineWalk.{seen_bytes}
+use Rattle.ostore_text_words.proofs.LineReaders.{worded_all, line_met, lines_end, lines_within, next_within}
 use Rattle.ostore_text_words.proofs.lines.read_lines.Goals as goal
 
 pub loop-line-init : goal.loop-line-init
