@@ -3,3 +3,4 @@ pub mod shape
 pub mod walks
 pub mod parts
 pub mod changes
+pub mod allocation

@@ -7,5 +7,9 @@ pub mod Cells
 pub mod Rules
 pub mod FaultNames
 pub mod Changes
+pub mod PageLists
+pub mod PageChains
+pub mod Allocated
+pub mod FreshPages
 -- What only ties private code.
 pub mod inside

@@ -4,6 +4,7 @@
 
 mod cells;
 mod check;
+mod fresh;
 mod laws;
 pub mod layout;
 mod numbers;
@@ -12,6 +13,7 @@ mod tag_rows;
 
 pub use cells::{NoRoom, add_cell, mark_dead};
 pub use check::{PageFault, check_page};
+pub use fresh::fresh_pages;
 pub use laws::{cells_are_apart, image_is_whole, page_is_its_parts, same_parts_are_one_page};
 pub use numbers::{get_i64, get_u8, get_u16, get_u32, put_i64, put_u8, put_u16, put_u32};
 pub use page_header::{PageHeader, header, set_header};

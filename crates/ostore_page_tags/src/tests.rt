@@ -1,4 +1,5 @@
 mod cells;
+mod fresh;
 
 use super::*;
 use ostore_base::PageImage;

@@ -98,7 +98,7 @@ cells_join rows end bytes row law a (suc n) all =
     ∙ ap (λ (s : ℕ). between (row a).offset s bytes ++ between (row (a + 1)).offset end bytes) stop
     ∙ between-append (row a).offset (row (a + 1)).offset end bytes (omega (arith, rise.0)) (omega arith)
 
-between_none : (start stop : ℕ) (bytes : List ℕ) → start ≡ stop → between start stop bytes ≡ []
+pub between_none : (start stop : ℕ) (bytes : List ℕ) → start ≡ stop → between start stop bytes ≡ []
 between_none start stop bytes same = let none : stop - start ≡ 0 = omega arith in ap (λ (n : ℕ). take n (drop start bytes)) none
 
 cells_join_all : (rows end : ℕ) (bytes : List ℕ) (row : ℕ → Row) → Offsets rows end (λ k. (row k).offset)

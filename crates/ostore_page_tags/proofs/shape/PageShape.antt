@@ -53,7 +53,7 @@ zero_at [] h k = refl
 zero_at (x ∷ xs) h zero = eqb-true x 0 (and_parts (eqb x 0) (are_zero xs) h).0
 zero_at (x ∷ xs) h (suc k) = zero_at xs (and_parts (eqb x 0) (are_zero xs) h).1 k
 
-zeros : (xs : List ℕ) → ((k : ℕ) → k < length xs → get_or xs k 0 ≡ 0) → are_zero xs ≡ true
+pub zeros : (xs : List ℕ) → ((k : ℕ) → k < length xs → get_or xs k 0 ≡ 0) → are_zero xs ≡ true
 zeros [] h = refl
 zeros (x ∷ xs) h = and_from (eqb x 0) (are_zero xs) (eq-eqb x 0 (h 0 (omega arith))) (zeros xs (λ k below. h (suc k) (omega arith)))
 

@@ -1,0 +1,4 @@
+pub mod PlainPages
+pub mod FreshChains
+pub mod FreshParts
+pub mod FreshPages
