@@ -13,8 +13,8 @@ use Rattle.ostore_schema_layout.specs.declared.schema.TypeDef.{TypeDef}
 use Rattle.ostore_schema_layout.specs.declared.schema.MemberDef.{MemberDef}
 use Rattle.ostore_schema_layout.specs.declared.schema.MemberKind.TheVariants as kinds
 use Rattle.ostore_schema_layout.specs.declared.fault.SchemaFault.{SchemaFault}
-use Rattle.ostore_schema_layout.specs.Spelling.{Spells}
-use Rattle.ostore_schema_layout.specs.Parsing.{parsed}
+use Rattle.ostore_schema_layout.specs.Spells.{Spells}
+use Rattle.ostore_schema_layout.specs.Parsed.{parsed}
 use Rattle.ostore_graph_model.specs.declared.commands.Command.{Command}
 use Rattle.ostore_graph_model.specs.declared.commands.Command.TheVariants.{New, Get, Set}
 use Rattle.ostore_graph_model.specs.declared.commands.Operand.TheVariants as operands

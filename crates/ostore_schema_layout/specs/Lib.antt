@@ -1,14 +1,14 @@
-pub mod Cells
+-- What the contracts of public calls rest on.
 pub mod Limits
 pub mod Numbers
-pub mod Spelling
+pub mod Cells
 pub mod Lawful
-pub mod Declaring
+pub mod Spells
+pub mod DeclaredBy
 pub mod Faults
-pub mod Order
-pub mod Resolving
-pub mod Parsing
-pub mod Printing
-pub mod Judging
 pub mod Titles
-pub mod Walking
+pub mod Order
+pub mod Resolved
+pub mod Parsed
+-- What only ties private code.
+pub mod inside

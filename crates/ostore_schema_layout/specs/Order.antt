@@ -3,7 +3,7 @@ use Rattle.ostore_text_words.specs.Lines.{lines_of, utf8_fault}
 use Rattle.ostore_schema_layout.specs.Titles.{fault_number, fault_place}
 use Rattle.ostore_schema_layout.specs.declared.declarations.TypeDeclaration.{TypeDeclaration}
 use Rattle.ostore_schema_layout.specs.Limits.{longest_schema}
-use Rattle.ostore_schema_layout.specs.Declaring.{declared_by}
+use Rattle.ostore_schema_layout.specs.DeclaredBy.{declared_by}
 use Rattle.ostore_schema_layout.specs.Faults.{faults_of}
 use Rattle.std.specs.Prelude.{◌≡◌, ◌⊎◌, ℕ, ◌<◌, ◌≤◌, List, length, None, Ok, Contains}
 use Rattle.std.specs.List.{AllByRecursion}

@@ -17,7 +17,7 @@ const EMPTY_CELL: u16 = 4;
 /// The layout of a type of the schema. Members lie in text order, each at the next free byte: an int has
 /// 8 bytes, a text of at most N bytes 1 + N rounded up to a multiple of 4, a reference 4, a set 12, a
 /// list or a dictionary 8. A type without members has a cell of 4.
-#[tactic(auto, using(crate::proofs::LayoutLaws::lawful_cell_size, crate::proofs::LayoutLaws::sound_layout))]
+#[tactic(auto, using(crate::proofs::places::LayoutLaws::lawful_cell_size, crate::proofs::places::LayoutLaws::sound_layout))]
 pub fn layout(alloc: Global, schema: &Schema, ty: TypeNo) -> Result<Layout, OutOfMemory>
     requires lawful { IsLawful schema.now }
     requires there { IsType schema.now ty.0 }
@@ -28,7 +28,7 @@ pub fn layout(alloc: Global, schema: &Schema, ty: TypeNo) -> Result<Layout, OutO
 }
 
 /// The layout of members that have room in a cell.
-#[tactic(auto, using(crate::proofs::LayoutLaws::sizes_in_cell))]
+#[tactic(auto, using(crate::proofs::places::LayoutLaws::sizes_in_cell))]
 fn layout_of_members(alloc: Global, members: &[MemberDef]) -> Result<Layout, OutOfMemory>
     requires { cell_size members.now ≤ largest_cell }
     ensures { IfOk result (λ layout. layout ≡ layout_of members.now) }
@@ -71,7 +71,7 @@ fn in_fours(count: u16) -> u16
 }
 
 /// How many bytes a cell of members takes.
-#[tactic(auto, using(crate::proofs::LayoutLaws::sizes_in_cell))]
+#[tactic(auto, using(crate::proofs::places::LayoutLaws::sizes_in_cell))]
 pub(crate) fn members_size(members: &[MemberDef]) -> u16
     requires { cell_size members.now ≤ largest_cell }
     ensures { result ≡ cell_size members.now }

@@ -4,8 +4,8 @@ ghost use Rattle.std.specs.Prelude.{◌≡◌, ◌≤◌, [], ◌∷◌, ◌++�
 ghost use Rattle.std.specs.List.{flat_map};
 ghost use Rattle.ostore_text_words.specs.Lines.{joined, text_of_lines};
 ghost use Rattle.ostore_schema_layout.specs.Lawful.{IsLawful};
-ghost use Rattle.ostore_schema_layout.specs.Printing.{spaced};
-ghost use Rattle.ostore_schema_layout.specs.Spelling.{Spells, canonical_text, inverse_words, kind_words, member_words, type_lines};
+ghost use Rattle.ostore_schema_layout.specs.inside.Spaced.{spaced};
+ghost use Rattle.ostore_schema_layout.specs.Spells.{Spells, canonical_text, inverse_words, kind_words, member_words, type_lines};
 ghost use Rattle.ostore_schema_layout.specs.Limits.{longest_schema};
 
 use crate::schema::{Inverse, MemberDef, MemberKind, Schema, TypeDef};

@@ -10,8 +10,8 @@ mod words;
 ghost use Rattle.std.specs.Prelude.{◌≡◌, ◌⊎◌, IfOk, IfErr, Ok, Err};
 ghost use Rattle.ostore_schema_layout.specs.declared.schema.Schema.{Schema};
 ghost use Rattle.ostore_schema_layout.specs.Order.{IsLeastFault};
-ghost use Rattle.ostore_schema_layout.specs.Parsing.{IsOrMemory, parsed};
-ghost use Rattle.ostore_schema_layout.specs.Spelling.{Spells};
+ghost use Rattle.ostore_schema_layout.specs.Parsed.{IsOrMemory, parsed};
+ghost use Rattle.ostore_schema_layout.specs.Spells.{Spells};
 
 use crate::fault::SchemaFault;
 use crate::reading::faults::first_fault;
@@ -25,7 +25,7 @@ use std::alloc::Global;
 pub const LONGEST_SCHEMA: usize = 32_764;
 
 /// The schema that the text spells, or the first of its faults.
-#[tactic(auto, using(crate::proofs::Numbering::faultless_few), unfolding(crate::specs::Parsing::parsed))]
+#[tactic(auto, using(crate::proofs::parsed::Numbering::faultless_few), unfolding(crate::specs::Parsed::parsed))]
 fn read_schema(alloc: Global, bytes: &[u8]) -> Result<Schema, SchemaFault>
     ensures { IsOrMemory result (parsed bytes.now) }
 {

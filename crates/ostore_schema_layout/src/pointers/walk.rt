@@ -5,7 +5,7 @@ ghost use Rattle.std.specs.List.{slice_get};
 ghost use Rattle.ostore_schema_layout.specs.Cells.{HasCode, pointers_of, sizes, type_pointers};
 ghost use Rattle.ostore_schema_layout.specs.Limits.{largest_cell};
 ghost use Rattle.ostore_schema_layout.specs.Lawful.{IsLawful};
-ghost use Rattle.ostore_schema_layout.specs.Walking.{member_pointers, pointer_found, pointers_from};
+ghost use Rattle.ostore_schema_layout.specs.inside.PointersLeft.{member_pointers, pointer_found, pointers_from};
 
 use super::{DESCRIPTOR, FIRST_CHUNK, FIRST_CHUNK_AT, SET_DESCRIPTOR_AT, chunk_form};
 use crate::cells::kind_size;
@@ -31,7 +31,7 @@ impl<'a> Model for Pointers<'a> {
     ghost use Rattle.std.specs.Prelude.{List, ℕ, ◌+◌, ◌*◌, ◌≤◌};
     ghost use Rattle.ostore_schema_layout.specs.Cells.{sizes};
     ghost use Rattle.ostore_schema_layout.specs.Limits.{largest_cell};
-    ghost use Rattle.ostore_schema_layout.specs.Walking.{pointers_left};
+    ghost use Rattle.ostore_schema_layout.specs.inside.PointersLeft.{pointers_left};
 
     ghost Value = { List ℕ };
 

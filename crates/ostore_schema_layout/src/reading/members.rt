@@ -2,9 +2,9 @@
 
 ghost use Rattle.std.specs.Prelude.{Some};
 ghost use Rattle.ostore_text_words.specs.Seen.{seen_line};
-ghost use Rattle.ostore_schema_layout.specs.Declaring.{named_inverse_at, inverse_at, text_at, ref_at, set_at, list_at, dict_int_at, dict_text_at, dict_at, kind_at, member_at, ended as ended_at};
+ghost use Rattle.ostore_schema_layout.specs.DeclaredBy.{named_inverse_at, inverse_at, text_at, ref_at, set_at, list_at, dict_int_at, dict_text_at, dict_at, kind_at, member_at, ended as ended_at};
 ghost use Rattle.ostore_schema_layout.specs.declared.declarations.KindDeclaration.TheVariants.{Int};
-ghost use Rattle.ostore_schema_layout.specs.Judging.{Gives};
+ghost use Rattle.ostore_schema_layout.specs.inside.Gives.{Gives};
 
 use crate::declarations::{InverseDeclaration, KindDeclaration, MemberDeclaration};
 use crate::fault::SchemaFault;
@@ -14,7 +14,7 @@ use ostore_text_words::{Line, read_dotted};
 use std::alloc::Global;
 
 /// `inverse TYPE.MEMBER` to the end of the line, from word 3 on.
-#[tactic(auto, unfolding(crate::specs::Declaring::named_inverse_at))]
+#[tactic(auto, unfolding(crate::specs::DeclaredBy::named_inverse_at))]
 fn named_inverse(alloc: Global, line: &Line) -> Result<InverseDeclaration, SchemaFault>
     ensures { Gives (λ inverse. Some inverse) result (named_inverse_at (seen_line line.now)) }
 {
@@ -42,7 +42,7 @@ fn inverse(alloc: Global, line: &Line) -> Result<Option<InverseDeclaration>, Sch
 }
 
 /// `text N`.
-#[tactic(auto, unfolding(crate::specs::Declaring::text_at))]
+#[tactic(auto, unfolding(crate::specs::DeclaredBy::text_at))]
 fn text_kind(line: &Line) -> Result<KindDeclaration, SchemaFault>
     ensures { Gives (λ kind. kind) result (text_at (seen_line line.now)) }
 {
@@ -52,7 +52,7 @@ fn text_kind(line: &Line) -> Result<KindDeclaration, SchemaFault>
 }
 
 /// `ref TYPE`, with an inverse or none.
-#[tactic(auto, unfolding(crate::specs::Declaring::ref_at))]
+#[tactic(auto, unfolding(crate::specs::DeclaredBy::ref_at))]
 fn ref_kind(alloc: Global, line: &Line) -> Result<KindDeclaration, SchemaFault>
     ensures { Gives (λ kind. kind) result (ref_at (seen_line line.now)) }
 {
@@ -63,7 +63,7 @@ fn ref_kind(alloc: Global, line: &Line) -> Result<KindDeclaration, SchemaFault>
 }
 
 /// `set TYPE`, with an inverse or none.
-#[tactic(auto, unfolding(crate::specs::Declaring::set_at))]
+#[tactic(auto, unfolding(crate::specs::DeclaredBy::set_at))]
 fn set_kind(alloc: Global, line: &Line) -> Result<KindDeclaration, SchemaFault>
     ensures { Gives (λ kind. kind) result (set_at (seen_line line.now)) }
 {
@@ -74,7 +74,7 @@ fn set_kind(alloc: Global, line: &Line) -> Result<KindDeclaration, SchemaFault>
 }
 
 /// `list TYPE`.
-#[tactic(auto, unfolding(crate::specs::Declaring::list_at))]
+#[tactic(auto, unfolding(crate::specs::DeclaredBy::list_at))]
 fn list_kind(alloc: Global, line: &Line) -> Result<KindDeclaration, SchemaFault>
     ensures { Gives (λ kind. kind) result (list_at (seen_line line.now)) }
 {
@@ -84,7 +84,7 @@ fn list_kind(alloc: Global, line: &Line) -> Result<KindDeclaration, SchemaFault>
 }
 
 /// `dict int TYPE`, from its type on.
-#[tactic(auto, unfolding(crate::specs::Declaring::dict_int_at))]
+#[tactic(auto, unfolding(crate::specs::DeclaredBy::dict_int_at))]
 fn dict_int_kind(alloc: Global, line: &Line) -> Result<KindDeclaration, SchemaFault>
     ensures { Gives (λ kind. kind) result (dict_int_at (seen_line line.now)) }
 {
@@ -94,7 +94,7 @@ fn dict_int_kind(alloc: Global, line: &Line) -> Result<KindDeclaration, SchemaFa
 }
 
 /// `dict text TYPE`, from its type on.
-#[tactic(auto, unfolding(crate::specs::Declaring::dict_text_at))]
+#[tactic(auto, unfolding(crate::specs::DeclaredBy::dict_text_at))]
 fn dict_text_kind(alloc: Global, line: &Line) -> Result<KindDeclaration, SchemaFault>
     ensures { Gives (λ kind. kind) result (dict_text_at (seen_line line.now)) }
 {
@@ -104,7 +104,7 @@ fn dict_text_kind(alloc: Global, line: &Line) -> Result<KindDeclaration, SchemaF
 }
 
 /// `dict`, its key and its type.
-#[tactic(auto, unfolding(crate::specs::Declaring::dict_at))]
+#[tactic(auto, unfolding(crate::specs::DeclaredBy::dict_at))]
 fn dict_kind(alloc: Global, line: &Line) -> Result<KindDeclaration, SchemaFault>
     ensures { Gives (λ kind. kind) result (dict_at (seen_line line.now)) }
 {
@@ -127,7 +127,7 @@ fn int_kind(line: &Line) -> Result<KindDeclaration, SchemaFault>
 }
 
 /// What the line says behind the member's name.
-#[tactic(auto, unfolding(crate::specs::Declaring::kind_at))]
+#[tactic(auto, unfolding(crate::specs::DeclaredBy::kind_at))]
 fn kind(alloc: Global, line: &Line) -> Result<KindDeclaration, SchemaFault>
     ensures { Gives (λ kind. kind) result (kind_at (seen_line line.now)) }
 {
@@ -154,7 +154,7 @@ fn kind(alloc: Global, line: &Line) -> Result<KindDeclaration, SchemaFault>
 }
 
 /// The member that the line declares.
-#[tactic(auto, unfolding(crate::specs::Declaring::member_at))]
+#[tactic(auto, unfolding(crate::specs::DeclaredBy::member_at))]
 pub(super) fn member(alloc: Global, line: &Line) -> Result<MemberDeclaration, SchemaFault>
     ensures { Gives (λ member. member) result (member_at (seen_line line.now)) }
 {

@@ -2,8 +2,8 @@
 
 ghost use Rattle.std.specs.Prelude.{◌≡◌, ◌≤◌, length, IfOk};
 ghost use Rattle.ostore_schema_layout.specs.Faults.{inverse_named as inverse_named_of};
-ghost use Rattle.ostore_schema_layout.specs.Resolving.{type_number as type_number_of, member_number as member_number_of, resolved_kind as resolved_kind_of, resolved_inverse as resolved_inverse_of, resolved_member as resolved_member_of, resolved_type as resolved_type_of, resolved as resolved_of};
-ghost use Rattle.ostore_schema_layout.specs.Judging.{AreFew};
+ghost use Rattle.ostore_schema_layout.specs.Resolved.{type_number as type_number_of, member_number as member_number_of, resolved_kind as resolved_kind_of, resolved_inverse as resolved_inverse_of, resolved_member as resolved_member_of, resolved_type as resolved_type_of, resolved as resolved_of};
+ghost use Rattle.ostore_schema_layout.specs.inside.Gives.{AreFew};
 ghost use Rattle.ostore_schema_layout.specs.Limits.{most_types, most_members};
 
 use crate::declarations::{KindDeclaration, MemberDeclaration, TypeDeclaration};

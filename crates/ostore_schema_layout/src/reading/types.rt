@@ -2,8 +2,8 @@
 
 ghost use Rattle.std.specs.Prelude.{◌≡◌, ◌<◌, length};
 ghost use Rattle.ostore_text_words.specs.Seen.{seen_line, seen_lines};
-ghost use Rattle.ostore_schema_layout.specs.Declaring.{is_type_line, type_name_at, declared_by};
-ghost use Rattle.ostore_schema_layout.specs.Judging.{Gives, GivesMembers, GivesType};
+ghost use Rattle.ostore_schema_layout.specs.DeclaredBy.{is_type_line, type_name_at, declared_by};
+ghost use Rattle.ostore_schema_layout.specs.inside.Gives.{Gives, GivesMembers, GivesType};
 
 use crate::declarations::{MemberDeclarations, NameAt, TypeDeclaration, TypeDeclarations};
 use crate::fault::SchemaFault;
@@ -24,7 +24,7 @@ fn is_type_line(line: &Line) -> bool
 }
 
 /// The name of a line `type NAME`.
-#[tactic(auto, unfolding(crate::specs::Declaring::type_name_at))]
+#[tactic(auto, unfolding(crate::specs::DeclaredBy::type_name_at))]
 fn type_name(alloc: Global, line: &Line) -> Result<NameAt, SchemaFault>
     ensures { Gives (λ name. name) result (type_name_at (seen_line line.now)) }
 {

@@ -3,8 +3,8 @@
 ghost use Rattle.std.specs.Prelude.{◌≡◌};
 ghost use Rattle.std.specs.List.{slice_get};
 ghost use Rattle.ostore_text_words.specs.Seen.{seen_word, seen_line};
-ghost use Rattle.ostore_schema_layout.specs.Declaring.{word_at, name_at, keyword_at, max_at};
-ghost use Rattle.ostore_schema_layout.specs.Judging.{Gives, GivesEnd};
+ghost use Rattle.ostore_schema_layout.specs.DeclaredBy.{word_at, name_at, keyword_at, max_at};
+ghost use Rattle.ostore_schema_layout.specs.inside.Gives.{Gives, GivesEnd};
 
 use crate::declarations::NameAt;
 use crate::fault::SchemaFault;
@@ -26,7 +26,7 @@ pub(super) fn word<'a>(line: &Line<'a>, i: usize) -> Result<Word<'a>, SchemaFaul
 }
 
 /// The word as a name, which has to be an identifier.
-#[tactic(auto, unfolding(crate::specs::Declaring::name_at))]
+#[tactic(auto, unfolding(crate::specs::DeclaredBy::name_at))]
 pub(super) fn name(alloc: Global, line: &Line, i: usize) -> Result<NameAt, SchemaFault>
     ensures { Gives (λ name. name) result (name_at (seen_line line.now) i) }
 {
@@ -41,7 +41,7 @@ pub(super) fn name(alloc: Global, line: &Line, i: usize) -> Result<NameAt, Schem
 }
 
 /// The word, which has to be this one.
-#[tactic(auto, unfolding(crate::specs::Declaring::keyword_at))]
+#[tactic(auto, unfolding(crate::specs::DeclaredBy::keyword_at))]
 pub(super) fn keyword<'a>(
     line: &Line<'a>,
     keyword: &[u8],
@@ -67,7 +67,7 @@ pub(super) fn ended(line: &Line, i: usize) -> Result<(), SchemaFault>
 }
 
 /// The word as the greatest length of a text, 1 to 40.
-#[tactic(auto, unfolding(crate::specs::Declaring::max_at))]
+#[tactic(auto, unfolding(crate::specs::DeclaredBy::max_at))]
 pub(super) fn max(line: &Line, i: usize) -> Result<u8, SchemaFault>
     ensures { Gives (λ max. max) result (max_at (seen_line line.now) i) }
 {

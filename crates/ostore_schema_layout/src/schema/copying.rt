@@ -1,15 +1,10 @@
 //! Copies of a schema and of its parts.
 
-ghost use Rattle.std.specs.Prelude.{◌≡◌, IfOk};
+use crate::schema::{MemberDef, Schema, TypeDef};
+use ostore_base::{Copied, OutOfMemory};
 
-use crate::schema::{MemberDef, MemberDefs, Schema, TypeDef, TypeDefs};
-use ostore_base::OutOfMemory;
-
-impl MemberDef {
-    /// An equal member.
-    pub fn copy(&self) -> Result<MemberDef, OutOfMemory>
-        ensures { IfOk result (λ copy. copy ≡ self.now) }
-    {
+impl Copied for MemberDef {
+    fn copy(&self) -> Result<MemberDef, OutOfMemory> {
         Ok(MemberDef {
             name: self.name.copy()?,
             kind: self.kind,
@@ -18,31 +13,19 @@ impl MemberDef {
     }
 }
 
-impl TypeDef {
-    /// An equal type.
-    pub fn copy(&self) -> Result<TypeDef, OutOfMemory>
-        ensures { IfOk result (λ copy. copy ≡ self.now) }
-    {
-        let mut members = MemberDefs::new(self.members.allocator());
-        for member in self.members.items() {
-            members.push(member.copy()?)?;
-        }
+impl Copied for TypeDef {
+    fn copy(&self) -> Result<TypeDef, OutOfMemory> {
         Ok(TypeDef {
             name: self.name.copy()?,
-            members,
+            members: self.members.copy()?,
         })
     }
 }
 
-impl Schema {
-    /// An equal schema.
-    pub fn copy(&self) -> Result<Schema, OutOfMemory>
-        ensures { IfOk result (λ copy. copy ≡ self.now) }
-    {
-        let mut types = TypeDefs::new(self.types.allocator());
-        for ty in self.types.items() {
-            types.push(ty.copy()?)?;
-        }
-        Ok(Schema { types })
+impl Copied for Schema {
+    fn copy(&self) -> Result<Schema, OutOfMemory> {
+        Ok(Schema {
+            types: self.types.copy()?,
+        })
     }
 }

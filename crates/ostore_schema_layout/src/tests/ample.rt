@@ -6,6 +6,7 @@ use crate::print::print_schema;
 use crate::reading::parse_schema;
 use crate::schema::{MemberNo, TypeNo};
 use crate::tests::samples::numbered;
+use ostore_base::Copied;
 use std::alloc::{AllocError, Global};
 use std::test::Fail;
 

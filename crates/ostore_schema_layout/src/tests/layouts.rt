@@ -6,8 +6,9 @@ ghost use Rattle.ostore_schema_layout.specs.Lawful.{IsLawful};
 
 use crate::cells::layout;
 use crate::pointers::{Pointers, code_size, next_pointer, pointer_places};
+use crate::reading::parse_schema;
 use crate::schema::{Schema, TypeNo};
-use crate::tests::samples::three_types;
+use crate::tests::samples::THREE;
 use ostore_base::OutOfMemory;
 use std::alloc::Global;
 use std::process::Abort;
@@ -37,7 +38,8 @@ fn expect_layout(
 #[test]
 fn members_lie_in_text_order(rt: HostRuntime) -> Result<(), Fail> {
     let alloc = rt.alloc();
-    let schema = three_types(alloc)?;
+    let schema = parse_schema(alloc, THREE)?;
+    assert_eq!(rt; schema.types.items().len(), 3);
     expect_layout(&rt, alloc, &schema, TypeNo(1), 12, &[0, 8])?;
     let every = [0, 8, 52, 56, 64, 68, 80, 88, 96];
     expect_layout(&rt, alloc, &schema, TypeNo(2), 104, &every)?;
@@ -61,7 +63,8 @@ fn expect_walk(rt: &impl Abort, alloc: Global, schema: &Schema, code: u8) -> Res
 #[test]
 fn types_have_their_pointers(rt: HostRuntime) -> Result<(), Fail> {
     let alloc = rt.alloc();
-    let schema = three_types(alloc)?;
+    let schema = parse_schema(alloc, THREE)?;
+    assert_eq!(rt; schema.types.items().len(), 3);
     assert!(rt; pointer_places(alloc, &schema, 1)?.as_slice() == [8].as_slice());
     let every = [64, 68, 76, 80, 88, 96];
     assert!(rt; pointer_places(alloc, &schema, 2)?.as_slice() == every.as_slice());
@@ -119,7 +122,8 @@ fn expect_pointers(
 #[test]
 fn chunks_have_their_pointers(rt: HostRuntime) -> Result<(), Fail> {
     let alloc = rt.alloc();
-    let schema = three_types(alloc)?;
+    let schema = parse_schema(alloc, THREE)?;
+    assert_eq!(rt; schema.types.items().len(), 3);
     for (code, size, second, third, last, count) in [
         (240, 128, 8, Some(12), 124, 31),
         (241, 128, 8, Some(12), 124, 31),

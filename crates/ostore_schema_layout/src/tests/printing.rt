@@ -3,6 +3,7 @@
 use crate::print::print_schema;
 use crate::reading::parse_schema;
 use crate::tests::samples::linked_types;
+use ostore_base::Copied;
 use std::test::Fail;
 
 const EXPECTED: &[u8] = b"type Part

@@ -1,8 +1,5 @@
 //! Schemas that are built by hand, and texts of many lines.
 
-ghost use Rattle.std.specs.Prelude.{◌≡◌, length, map, IfOk};
-ghost use Rattle.ostore_schema_layout.specs.Lawful.{IsLawful};
-
 use crate::schema::{Inverse, MemberDef, MemberKind, MemberNo, Schema, TypeDef, TypeNo};
 use ostore_base::{ListOf, OutOfMemory, Text};
 use std::alloc::{AllocError, Global};
@@ -12,10 +9,7 @@ fn ty(
     alloc: Global,
     name: &str,
     rows: &[(&str, MemberKind, Option<Inverse>)],
-) -> Result<TypeDef, OutOfMemory>
-    ensures name { IfOk result (λ ty. ty.name ≡ name.now) }
-    ensures members { IfOk result (λ ty. ty.members ≡ map (λ row. record { name = row.0.now; kind = row.1; inverse = row.2 }) rows.now) }
-{
+) -> Result<TypeDef, OutOfMemory> {
     let mut members = ListOf::new(alloc);
     for (name, kind, inverse) in rows {
         members.push(MemberDef {
@@ -30,37 +24,22 @@ fn ty(
     })
 }
 
-/// A schema of three types: a part, one with members of every kind, and one without members.
-pub fn three_types(alloc: Global) -> Result<Schema, OutOfMemory>
-    ensures lawful { IfOk result IsLawful }
-    ensures three { IfOk result (λ schema. length schema.types ≡ 3) }
-{
-    let part = TypeNo(1);
-    let every = TypeNo(2);
-    let empty = TypeNo(3);
-    let parts = [
-        ("id", MemberKind::Int, None),
-        ("next", MemberKind::Ref { target: part }, None),
-    ];
-    let all = [
-        ("number", MemberKind::Int, None),
-        ("long", MemberKind::Text { max: 40 }, None),
-        ("short", MemberKind::Text { max: 3 }, None),
-        ("middle", MemberKind::Text { max: 4 }, None),
-        ("one", MemberKind::Ref { target: part }, None),
-        ("many", MemberKind::Set { target: part }, None),
-        ("row", MemberKind::List { target: every }, None),
-        ("by_number", MemberKind::DictInt { target: empty }, None),
-        ("by_name", MemberKind::DictText { target: part }, None),
-    ];
-    let part = ty(alloc, "Part", &parts)?;
-    let every = ty(alloc, "Every", &all)?;
-    let empty = ty(alloc, "Empty", &[])?;
-    let types = vec![in alloc; part, every, empty]?;
-    Ok(Schema {
-        types: ListOf::from_vec(types),
-    })
-}
+/// Three types: a part, one with members of every kind, and one without members.
+pub const THREE: &[u8] = b"type Part
+id int
+next ref Part
+type Every
+number int
+long text 40
+short text 3
+middle text 4
+one ref Part
+many set Part
+row list Every
+by_number dict int Empty
+by_name dict text Part
+type Empty
+";
 
 /// A schema of two types with links between them, and with members of every kind.
 pub fn linked_types(alloc: Global) -> Result<Schema, OutOfMemory> {

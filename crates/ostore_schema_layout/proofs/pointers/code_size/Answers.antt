@@ -1,6 +1,6 @@
 use Rattle.std.proofs.Common.{arith, ap}
 use Rattle.ostore_schema_layout.specs.Cells.{cell_size}
-use Rattle.ostore_schema_layout.proofs.PointerLaws.{lawful_cells}
+use Rattle.ostore_schema_layout.proofs.places.PointerLaws.{lawful_cells}
 use Rattle.ostore_schema_layout.proofs.pointers.code_size.Goals as goal
 
 pub members_size-requires : goal.members_size-requires

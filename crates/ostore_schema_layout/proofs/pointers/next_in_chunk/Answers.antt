@@ -1,4 +1,4 @@
-use Rattle.ostore_schema_layout.proofs.PointerLaws.{next_entry_missing, next_entry_there}
+use Rattle.ostore_schema_layout.proofs.places.PointerLaws.{next_entry_missing, next_entry_there}
 use Rattle.std.proofs.Common.{◌≡◌, ◌-◌, arith}
 use Rattle.std.specs.Int.{div_ceil}
 use Rattle.ostore_schema_layout.proofs.pointers.next_in_chunk.Goals as goal

@@ -1,4 +1,4 @@
-use Rattle.ostore_schema_layout.proofs.PointerLaws.{lawful_sizes}
+use Rattle.ostore_schema_layout.proofs.places.PointerLaws.{lawful_sizes}
 use Rattle.ostore_schema_layout.proofs.pointers.next_pointer.Goals as goal
 
 pub next_in_type-requires : goal.next_in_type-requires

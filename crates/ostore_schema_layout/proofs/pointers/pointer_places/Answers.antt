@@ -1,6 +1,6 @@
 use Rattle.std.proofs.Common.{◌≡◌, rules}
 use Rattle.ostore_schema_layout.specs.Cells.{pointers_of}
-use Rattle.ostore_schema_layout.proofs.PointerLaws.{ascending_pointers, lawful_sizes, pointers_within}
+use Rattle.ostore_schema_layout.proofs.places.PointerLaws.{ascending_pointers, lawful_sizes, pointers_within}
 use Rattle.ostore_schema_layout.proofs.pointers.pointer_places.Goals as goal
 
 pub push_type_pointers-requires : goal.push_type_pointers-requires

@@ -1,5 +1,5 @@
 use Rattle.ostore_schema_layout.specs.Cells.{chunk_of}
-use Rattle.ostore_schema_layout.proofs.PointerLaws.{one_more_entry}
+use Rattle.ostore_schema_layout.proofs.places.PointerLaws.{one_more_entry}
 use Rattle.ostore_schema_layout.proofs.pointers.push_entry_pointers.Goals as goal
 
 pub loop-i-preserved : goal.loop-i-preserved

@@ -1,6 +1,6 @@
 use Rattle.std.proofs.Common.{◌≡◌, rules}
-use Rattle.ostore_schema_layout.specs.Spelling.{canonical_text}
-use Rattle.ostore_schema_layout.proofs.PrintLaws.{spells_canonical}
+use Rattle.ostore_schema_layout.specs.Spells.{canonical_text}
+use Rattle.ostore_schema_layout.proofs.spelled.PrintLaws.{spells_canonical}
 use Rattle.ostore_schema_layout.proofs.print.print_schema.Goals as goal
 
 pub returns-clause-spells : goal.returns-clause-spells

@@ -1,7 +1,7 @@
 -- What is printed, with the lines of the members that are left, is the whole text.
 use Rattle.std.proofs.Common.{◌≡◌, ◌++◌, drop, map}
 use Rattle.ostore_text_words.specs.Lines.{text_of_lines}
-use Rattle.ostore_schema_layout.specs.Spelling.{member_words}
+use Rattle.ostore_schema_layout.specs.Spells.{member_words}
 use Rattle.ostore_schema_layout.proofs.print.push_members.Given as goal
 
 abbrev pub invariant-loop-member : goal.invariant-loop-member

@@ -2,7 +2,7 @@
 use Rattle.std.proofs.Common.{◌≡◌, ◌++◌, drop}
 use Rattle.std.specs.List.{flat_map}
 use Rattle.ostore_text_words.specs.Lines.{text_of_lines}
-use Rattle.ostore_schema_layout.specs.Spelling.{type_lines}
+use Rattle.ostore_schema_layout.specs.Spells.{type_lines}
 use Rattle.ostore_schema_layout.proofs.print.push_types.Given as goal
 
 abbrev pub invariant-loop-ty : goal.invariant-loop-ty

@@ -1,4 +1,4 @@
-use Rattle.ostore_schema_layout.proofs.ParsedLaws.{is_spelled, is_read_again, is_least}
+use Rattle.ostore_schema_layout.proofs.parsed.ParsedLaws.{is_spelled, is_read_again, is_least}
 use Rattle.ostore_schema_layout.proofs.reading.parse_schema.Goals as goal
 
 pub returns-clause-read : goal.returns-clause-read

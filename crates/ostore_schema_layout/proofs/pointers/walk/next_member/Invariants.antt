@@ -1,7 +1,7 @@
 -- The members before this one have no pointers.
 use Rattle.std.proofs.Common.{◌≡◌, ◌+◌, drop}
 use Rattle.ostore_schema_layout.specs.Cells.{sizes}
-use Rattle.ostore_schema_layout.specs.Walking.{member_pointers}
+use Rattle.ostore_schema_layout.specs.inside.PointersLeft.{member_pointers}
 use Rattle.ostore_schema_layout.proofs.pointers.walk.next_member.Given as goal
 
 abbrev pub invariant-loop-i : goal.invariant-loop-i

@@ -1,5 +1,5 @@
 use Rattle.std.proofs.Common.{◌∙◌}
-use Rattle.ostore_schema_layout.proofs.FirstFaults.{type_found, type_passed, types_passed}
+use Rattle.ostore_schema_layout.proofs.parsed.FirstFaults.{type_found, type_passed, types_passed}
 use Rattle.ostore_schema_layout.proofs.reading.faults.first_fault.Goals as goal
 
 pub returns-in-Some : goal.returns-in-Some

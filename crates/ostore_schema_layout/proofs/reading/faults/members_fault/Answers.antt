@@ -1,6 +1,6 @@
 use Rattle.std.proofs.Common.{◌≡◌, ap, ◌<◌, ◌≤◌, ◌∙◌, length, get_or, take, Some, None, arith}
 use Rattle.ostore_schema_layout.specs.Faults.{member_faults, first_of}
-use Rattle.ostore_schema_layout.proofs.FirstFaults.{member_found, member_passed, members_passed}
+use Rattle.ostore_schema_layout.proofs.parsed.FirstFaults.{member_found, member_passed, members_passed}
 use Rattle.ostore_schema_layout.proofs.reading.faults.members_fault.Goals as goal
 
 pub returns-in-Some : goal.returns-in-Some

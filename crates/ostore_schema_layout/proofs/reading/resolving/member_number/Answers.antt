@@ -2,7 +2,7 @@ use Rattle.std.proofs.Common.{ap}
 use Rattle.std.specs.Str.{bytes_eq}
 use Rattle.ostore_schema_layout.specs.declared.declarations.MemberDeclaration.{MemberDeclaration}
 use Rattle.ostore_schema_layout.specs.Numbers.{place_named, member_of_place}
-use Rattle.ostore_schema_layout.proofs.Numbering.{place_or_length}
+use Rattle.ostore_schema_layout.proofs.parsed.Numbering.{place_or_length}
 use Rattle.ostore_schema_layout.proofs.reading.resolving.member_number.Goals as goal
 
 pub returns : goal.returns

@@ -1,5 +1,5 @@
 use Rattle.std.proofs.Common.{◌≡◌, map, take}
-use Rattle.ostore_schema_layout.specs.Resolving.{resolved_type}
+use Rattle.ostore_schema_layout.specs.Resolved.{resolved_type}
 use Rattle.ostore_schema_layout.proofs.reading.resolving.resolved.Given as goal
 
 abbrev pub invariant-loop-ty : goal.invariant-loop-ty

@@ -1,5 +1,5 @@
 use Rattle.std.proofs.Common.{length, ap, arith}
-use Rattle.ostore_schema_layout.proofs.Numbering.{members_named_few}
+use Rattle.ostore_schema_layout.proofs.parsed.Numbering.{members_named_few}
 use Rattle.ostore_schema_layout.proofs.reading.resolving.resolved_inverse.Goals as goal
 
 pub member_number-requires : goal.member_number-requires

@@ -1,5 +1,5 @@
 use Rattle.std.proofs.Common.{◌≡◌, map, take}
-use Rattle.ostore_schema_layout.specs.Resolving.{resolved_member}
+use Rattle.ostore_schema_layout.specs.Resolved.{resolved_member}
 use Rattle.ostore_schema_layout.proofs.reading.resolving.resolved_type.Given as goal
 
 abbrev pub invariant-loop-member : goal.invariant-loop-member

@@ -2,9 +2,9 @@ use Rattle.std.proofs.Common.{◌+◌, List, length, drop, sym, ap, ◌∙◌, a
 use Rattle.std.proofs.lemmas.Result.{err_from_is_err_and}
 use Rattle.ostore_text_words.specs.Lines.{PlacedLine}
 use Rattle.ostore_text_words.specs.Seen.{seen_line, seen_lines}
-use Rattle.ostore_schema_layout.specs.Declaring.{declared_behind, declared_by}
-use Rattle.ostore_schema_layout.specs.Judging.{before_types}
-use Rattle.ostore_schema_layout.proofs.ReaderLaws.{with_members, seen_step, seen_end, type_step, member_step, member_fails, members_end}
+use Rattle.ostore_schema_layout.specs.DeclaredBy.{declared_behind, declared_by}
+use Rattle.ostore_schema_layout.specs.inside.Gives.{before_types}
+use Rattle.ostore_schema_layout.proofs.parsed.ReaderLaws.{with_members, seen_step, seen_end, type_step, member_step, member_fails, members_end}
 use Rattle.ostore_schema_layout.proofs.reading.types.read_members.Goals as goal
 
 pub returns-then-is_type_line : goal.returns-then-is_type_line

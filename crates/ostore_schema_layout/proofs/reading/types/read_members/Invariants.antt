@@ -1,7 +1,7 @@
 use Rattle.std.proofs.Common.{◌≡◌, drop}
 use Rattle.ostore_text_words.specs.Seen.{seen_lines}
-use Rattle.ostore_schema_layout.specs.Declaring.{declared_behind}
-use Rattle.ostore_schema_layout.proofs.ReaderLaws.{with_members}
+use Rattle.ostore_schema_layout.specs.DeclaredBy.{declared_behind}
+use Rattle.ostore_schema_layout.proofs.parsed.ReaderLaws.{with_members}
 use Rattle.ostore_schema_layout.proofs.reading.types.read_members.Given as goal
 
 abbrev pub invariant-loop-i : goal.invariant-loop-i

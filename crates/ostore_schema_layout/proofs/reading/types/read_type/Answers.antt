@@ -2,9 +2,9 @@ use Rattle.std.proofs.Common.{List, Ok, drop, subst}
 use Rattle.std.proofs.lemmas.Result.{err_from_is_err_and}
 use Rattle.ostore_text_words.specs.declared.lines.Line.{Line}
 use Rattle.ostore_text_words.specs.Seen.{seen_line, seen_lines}
-use Rattle.ostore_schema_layout.specs.Declaring.{declared_behind}
-use Rattle.ostore_schema_layout.specs.Judging.{Fails, GivesMembers}
-use Rattle.ostore_schema_layout.proofs.ReaderLaws.{seen_step, tail_is, name_fails, behind_fails, type_found}
+use Rattle.ostore_schema_layout.specs.DeclaredBy.{declared_behind}
+use Rattle.ostore_schema_layout.specs.inside.Gives.{Fails, GivesMembers}
+use Rattle.ostore_schema_layout.proofs.parsed.ReaderLaws.{seen_step, tail_is, name_fails, behind_fails, type_found}
 use Rattle.ostore_schema_layout.proofs.reading.types.read_type.Goals as goal
 
 pub returns-in_err-name : goal.returns-in_err-name

@@ -1,7 +1,7 @@
 use Rattle.std.proofs.Common.{List, sym, ap, ◌∙◌}
 use Rattle.ostore_text_words.specs.Lines.{PlacedLine}
-use Rattle.ostore_schema_layout.specs.Declaring.{declared_by}
-use Rattle.ostore_schema_layout.proofs.ReaderLaws.{with_types, seen_end, types_end}
+use Rattle.ostore_schema_layout.specs.DeclaredBy.{declared_by}
+use Rattle.ostore_schema_layout.proofs.parsed.ReaderLaws.{with_types, seen_end, types_end}
 use Rattle.ostore_schema_layout.proofs.reading.types.read_types.Goals as goal
 
 pub returns : goal.returns

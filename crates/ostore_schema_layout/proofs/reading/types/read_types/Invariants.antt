@@ -1,7 +1,7 @@
 use Rattle.std.proofs.Common.{◌≡◌, ◌≤◌, ◌-◌, drop, length}
 use Rattle.ostore_text_words.specs.Seen.{seen_lines}
-use Rattle.ostore_schema_layout.specs.Declaring.{declared_by}
-use Rattle.ostore_schema_layout.proofs.ReaderLaws.{with_types}
+use Rattle.ostore_schema_layout.specs.DeclaredBy.{declared_by}
+use Rattle.ostore_schema_layout.proofs.parsed.ReaderLaws.{with_types}
 use Rattle.ostore_schema_layout.proofs.reading.types.read_types.Given as goal
 
 abbrev pub invariant-loop-at : goal.invariant-loop-at

@@ -1,8 +1,8 @@
 use Rattle.std.proofs.Common.{ap, sym, subst, refl, arith, length, Option, IsSome}
 use Rattle.ostore_schema_layout.specs.declared.schema.MemberDef.{MemberDef}
 use Rattle.ostore_schema_layout.specs.Numbers.{members_of}
-use Rattle.ostore_schema_layout.proofs.LawfulLawsPlaces.{members_few}
-use Rattle.ostore_schema_layout.proofs.ResolveLawsLists.{item_at}
+use Rattle.ostore_schema_layout.proofs.lawful.LawfulLawsPlaces.{members_few}
+use Rattle.ostore_schema_layout.proofs.resolved.ResolveLawsLists.{item_at}
 use Rattle.ostore_schema_layout.proofs.schema.Schema.member_named.Goals as goal
 
 pub overflow_cast-result : goal.overflow_cast-result

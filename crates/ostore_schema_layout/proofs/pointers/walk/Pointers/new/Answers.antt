@@ -1,7 +1,7 @@
 use Rattle.std.proofs.Common.{◌≢◌, arith}
 use Rattle.ostore_schema_layout.specs.Cells.{descriptor_code}
-use Rattle.ostore_schema_layout.proofs.PointerLaws.{lawful_sizes}
-use Rattle.ostore_schema_layout.proofs.WalkLaws.{chunk_walk}
+use Rattle.ostore_schema_layout.proofs.places.PointerLaws.{lawful_sizes}
+use Rattle.ostore_schema_layout.proofs.places.WalkLaws.{chunk_walk}
 use Rattle.ostore_schema_layout.proofs.pointers.walk.Pointers.new.Goals as goal
 
 pub of_members-requires : goal.of_members-requires

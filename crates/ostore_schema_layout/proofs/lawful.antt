@@ -1,0 +1,2 @@
+pub mod LawfulLawsPlaces
+pub mod LawfulLaws

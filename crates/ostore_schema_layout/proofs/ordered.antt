@@ -1,0 +1,3 @@
+pub mod OrderLawsLines
+pub mod OrderLawsDeclared
+pub mod OrderLaws

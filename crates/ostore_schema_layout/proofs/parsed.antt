@@ -1,0 +1,4 @@
+pub mod FirstFaults
+pub mod Numbering
+pub mod ReaderLaws
+pub mod ParsedLaws

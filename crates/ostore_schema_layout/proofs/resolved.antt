@@ -1,0 +1,5 @@
+pub mod ResolveLawsLists
+pub mod ResolveLawsFaults
+pub mod ResolveLawsPlaces
+pub mod ResolveLawsNames
+pub mod ResolveLaws
