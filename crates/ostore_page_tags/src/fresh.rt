@@ -8,9 +8,7 @@ ghost use Rattle.ostore_page_tags.specs.PageLists.{schema_text};
 ghost use Rattle.ostore_page_tags.specs.Allocated.{IsAllocated};
 ghost use Rattle.ostore_page_tags.specs.FreshPages.{plain_image, stored_schema, part_image, part_images, free_images, fresh_list};
 
-use crate::layout::{
-    FIRST_OPEN_PAGE, FREE_KIND, FRONT_KIND, ROOTS_KIND, SCHEMA_PAGES,
-};
+use crate::layout::{FIRST_OPEN_PAGE, FREE_KIND, FRONT_KIND, ROOTS_KIND, SCHEMA_PAGES};
 use crate::page_header::{PageHeader, set_header};
 use ostore_base::{OutOfMemory, PAGE_SIZE, PageImage, PageList};
 use std::alloc::Global;
@@ -55,7 +53,9 @@ fn part_of(bytes: &[u8], i: u32) -> PageImage
 {
     let start = PAGE_SIZE * i as usize;
     let mut image = PageImage::zeroed();
-    image.bytes.copy_from_slice(&bytes[start..start + PAGE_SIZE]);
+    image
+        .bytes
+        .copy_from_slice(&bytes[start..start + PAGE_SIZE]);
     image
 }
 

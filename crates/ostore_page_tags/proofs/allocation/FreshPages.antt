@@ -1,5 +1,5 @@
 -- The pages of a fresh database are allocated, and hold the schema's text.
-use Rattle.std.proofs.Common.{◌≡◌, ℕ, zero, suc, ◌+◌, ◌-◌, ◌*◌, ◌^◌, ◌<◌, ◌≤◌, ltb, cond, List, [], ◌∷◌, ◌++◌, length, get_or, take, drop, map, replicate, refl, sym, ap, subst, ◌∙◌, arith, inl, inr}
+use Rattle.std.proofs.Common.{◌≡◌, ℕ, zero, suc, ◌+◌, ◌-◌, ◌*◌, ◌<◌, ◌≤◌, ltb, cond, List, [], ◌∷◌, ◌++◌, length, take, drop, map, replicate, refl, sym, ap, subst, ◌∙◌, arith, inl, inr}
 use Rattle.std.specs.List.{range_with_len}
 use Rattle.std.proofs.lemmas.Bool.{cases_lt, lt-ltb, le-ltb}
 use Rattle.std.proofs.lemmas.List.{length-append, append-nil, append_assoc, take_all, take_at, length-replicate, get_or-replicate}
@@ -10,10 +10,9 @@ use Rattle.byteorder.specs.Numbers.{little_number-reads_back, length-bytes_low_f
 use Rattle.ostore_base.specs.declared.page.TheConstants.{PAGE_SIZE}
 use Rattle.ostore_base.specs.declared.page.PageImage.{PageImage}
 use Rattle.ostore_page_tags.specs.declared.page_header.PageHeader.{PageHeader}
-use Rattle.ostore_page_tags.specs.Numbers.{number_at}
 use Rattle.ostore_page_tags.specs.Rules.{are_zero}
-use Rattle.ostore_page_tags.specs.PageLists.{bytes_at, header_at, first_of, schema_bytes, schema_length, schema_text}
-use Rattle.ostore_page_tags.specs.PageChains.{IsSegment, HasHeader, AreChained}
+use Rattle.ostore_page_tags.specs.PageLists.{bytes_at, header_at, first_of, schema_length, schema_text}
+use Rattle.ostore_page_tags.specs.PageChains.{HasHeader, AreChained}
 use Rattle.ostore_page_tags.specs.Allocated.{EndsInZeros, IsAllocated}
 use Rattle.ostore_page_tags.specs.FreshPages.{plain_image, stored_schema, part_image, part_images, free_image, free_images, fresh_list}
 use Rattle.ostore_page_tags.proofs.bytes.ImageLaws.{length-between}

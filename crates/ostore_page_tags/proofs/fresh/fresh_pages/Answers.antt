@@ -1,7 +1,6 @@
-use Rattle.std.proofs.Common.{◌≡◌, length, sym, ap, subst, ◌∙◌, arith}
+use Rattle.std.proofs.Common.{length, sym, ap, subst, ◌∙◌, arith}
 use Rattle.ostore_page_tags.specs.PageLists.{schema_text}
 use Rattle.ostore_page_tags.specs.Allocated.{IsAllocated}
-use Rattle.ostore_page_tags.specs.FreshPages.{fresh_list}
 use Rattle.ostore_page_tags.proofs.allocation.FreshPages.{stored_schema-long, long_nine, long_ten, fresh_made, fresh-text, fresh-allocated}
 use Rattle.ostore_page_tags.proofs.fresh.fresh_pages.Goals as goal
 

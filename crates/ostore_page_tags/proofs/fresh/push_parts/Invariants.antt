@@ -1,4 +1,4 @@
-use Rattle.std.proofs.Common.{◌≡◌, ◌-◌, ◌++◌}
+use Rattle.std.proofs.Common.{◌≡◌, ◌++◌}
 use Rattle.ostore_page_tags.specs.FreshPages.{part_images}
 use Rattle.ostore_page_tags.proofs.fresh.push_parts.Given as goal
 
