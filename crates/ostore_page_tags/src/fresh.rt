@@ -3,7 +3,7 @@
 ghost use Rattle.std.specs.Prelude.{◌≡◌, ◌≤◌, ◌<◌, ◌+◌, ◌-◌, ◌*◌, ◌++◌, IfOk, OnOk, length};
 ghost use Rattle.ostore_base.specs.declared.page.TheConstants.{PAGE_SIZE};
 ghost use Rattle.ostore_page_tags.specs.declared.layout.TheConstants.{FIRST_OPEN_PAGE};
-ghost use Rattle.ostore_page_tags.specs.Limits.{least_pages, most_pages, longest_schema_text};
+ghost use Rattle.ostore_page_tags.specs.Limits.{least_pages, most_pages, longest_schema};
 ghost use Rattle.ostore_page_tags.specs.PageLists.{schema_text};
 ghost use Rattle.ostore_page_tags.specs.Allocated.{IsAllocated};
 ghost use Rattle.ostore_page_tags.specs.FreshPages.{plain_image, stored_schema, part_image, part_images, free_images, fresh_list};
@@ -35,7 +35,7 @@ fn plain_page(kind: u8, next: u32) -> PageImage
 // The text as the pages hold it, one after the other.
 #[tactic(auto, unfolding(crate::specs::FreshPages::stored_schema))]
 fn stored_schema(alloc: Global, text: &[u8]) -> Result<Vec<u8>, OutOfMemory>
-    requires { length text.now ≤ longest_schema_text }
+    requires { length text.now ≤ longest_schema }
     ensures { IfOk result (λ held. held.items ≡ stored_schema text.now) }
 {
     let mut held = Vec::new(alloc);
@@ -89,7 +89,7 @@ fn push_free(list: &mut PageList, pages: u32) -> Result<(), OutOfMemory>
 pub fn fresh_pages(alloc: Global, schema: &[u8], pages: u32) -> Result<PageList, OutOfMemory>
     requires least { least_pages ≤ pages }
     requires most { pages ≤ most_pages }
-    requires short { length schema.now ≤ longest_schema_text }
+    requires short { length schema.now ≤ longest_schema }
     ensures fresh { IfOk result (λ list. list ≡ fresh_list schema.now pages) }
     ensures schema { IfOk result (λ list. schema_text list ≡ schema.now) }
     ensures allocated { IfOk result (λ list. IsAllocated list) }
