@@ -3,9 +3,8 @@ use Rattle.std.proofs.Common.{◌≡◌, ℕ, ◌+◌, ◌-◌, ◌/◌, ◌%◌
 use Rattle.std.proofs.lemmas.Bool.{cases_lt}
 use Rattle.std.proofs.lemmas.Nat.{shr-shr}
 use Rattle.std.proofs.lemmas.Nat.Bits.{same_from_bits_below}
-use Rattle.ostore_base.specs.Limits.{most_clients}
 use Rattle.ostore_page_service.specs.Parts.{part_of}
-use Rattle.ostore_page_service.specs.Words.{keep_of, owner, fetcher, rest, HaveSameParts}
+use Rattle.ostore_page_service.specs.Words.{HaveSameParts}
 use Rattle.ostore_page_service.specs.declared.word.TheConstants.{KEEP, OWNER, FETCHER, WANTED, END, NUMBER}
 use Rattle.ostore_page_service.proofs.WordLaws.{bit_of_part}
 

@@ -1,5 +1,5 @@
 -- What each call of the sequential server does, exactly, to the words and images of all pages.
-use Rattle.std.specs.Prelude.{◌≡◌, ◌≢◌, ℕ, ◌+◌, ◌^◌, ◌≤◌, ◌==◌, if◌then◌else◌, false, Result, Ok, Err, ◌⊎◌, List, Some, slice_get, slice_set}
+use Rattle.std.specs.Prelude.{◌≡◌, ◌≢◌, ℕ, ◌+◌, ◌≤◌, ◌==◌, if◌then◌else◌, false, Result, Ok, Err, ◌⊎◌, List, Some, slice_get, slice_set}
 use Rattle.ostore_base.specs.declared.page.PageImage.{PageImage}
 use Rattle.ostore_redo_journal.specs.Drafts.{Writes}
 use Rattle.ostore_redo_journal.specs.Limits.{most_records}

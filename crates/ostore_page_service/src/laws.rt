@@ -42,7 +42,8 @@ pub fn conflicts_name_another(word: Word, client: ClientNo)
     ensures read { use_of word.0 client.0 ≡ 0 → ReadConflict word.0 client.0
         → NamesAnother word.0 client.0 }
     ensures own { use_of word.0 client.0 ≡ 1 → fetcher word.0 ≢ client.0 + 1
-        → owner word.0 ≢ client.0 + 1 → (OwnConflict word.0 client.0 → ⊥) → MayOwn word.0 client.0 }
+        → owner word.0 ≢ client.0 + 1 → (OwnConflict word.0 client.0 → ⊥)
+        → MayOwn word.0 client.0 }
 {}
 
 /// A word, as a number, is determined by its parts.

@@ -1,4 +1,4 @@
-use Rattle.std.proofs.Common.{sym, refl, ap, ◌∙◌}
+use Rattle.std.proofs.Common.{refl, ap}
 use Rattle.ostore_page_service.specs.Holding.{room_of}
 use Rattle.ostore_page_service.proofs.HistoryLaws.{served_same}
 use Rattle.ostore_page_service.proofs.server.claims.SeqServicePageClaims.reserve.Goals as goal
