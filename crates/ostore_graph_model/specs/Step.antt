@@ -43,7 +43,11 @@ refused refusal vars graph = record { reply = replies.Refused refusal; vars = va
 abbrev pub first_value : MemberKind → Value
 first_value kinds.Int = values.Int (pos 0)
 first_value (kinds.Text max) = values.Text []
-first_value other = values.Null
+first_value (kinds.Ref target) = values.Null
+first_value (kinds.Set target) = values.Null
+first_value (kinds.List target) = values.Null
+first_value (kinds.DictInt target) = values.Null
+first_value (kinds.DictText target) = values.Null
 
 -- a new object of a type
 abbrev pub new_object : Schema → TypeNo → Object
@@ -132,7 +136,12 @@ stored vars graph name object member value = record {
 -- only an int member takes an int
 abbrev pub set_int_of : Vars → Graph → Value → Name → Object → MemberNo → MemberKind → Stepped
 set_int_of vars graph value name object member kinds.Int = stored vars graph name object member value
-set_int_of vars graph value name object member other = refused WrongKind vars graph
+set_int_of vars graph value name object member (kinds.Text max) = refused WrongKind vars graph
+set_int_of vars graph value name object member (kinds.Ref target) = refused WrongKind vars graph
+set_int_of vars graph value name object member (kinds.Set target) = refused WrongKind vars graph
+set_int_of vars graph value name object member (kinds.List target) = refused WrongKind vars graph
+set_int_of vars graph value name object member (kinds.DictInt target) = refused WrongKind vars graph
+set_int_of vars graph value name object member (kinds.DictText target) = refused WrongKind vars graph
 
 -- ---- a command
 

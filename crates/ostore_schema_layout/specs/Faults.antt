@@ -7,11 +7,14 @@ use Rattle.ostore_schema_layout.specs.declared.declarations.MemberDeclaration.{M
 use Rattle.ostore_schema_layout.specs.declared.declarations.KindDeclaration.{KindDeclaration}
 use Rattle.ostore_schema_layout.specs.declared.declarations.KindDeclaration.TheVariants as kinds
 use Rattle.ostore_schema_layout.specs.declared.declarations.InverseDeclaration.{InverseDeclaration}
+use Rattle.ostore_schema_layout.specs.declared.schema.TypeNo.{TypeNo}
+use Rattle.ostore_schema_layout.specs.declared.schema.MemberKind.{MemberKind}
+use Rattle.ostore_schema_layout.specs.declared.schema.MemberKind.TheVariants as members
 use Rattle.ostore_schema_layout.specs.declared.fault.SchemaFault.{SchemaFault}
 use Rattle.ostore_schema_layout.specs.declared.fault.SchemaFault.TheVariants.{DuplicateType, DuplicateMember, UnknownType, InverseMismatch, CellTooLarge, TooManyTypes, TooManyMembers}
 use Rattle.ostore_schema_layout.specs.Limits.{most_types, most_members, largest_cell}
 use Rattle.ostore_schema_layout.specs.Numbers.{first_named}
-use Rattle.ostore_schema_layout.specs.Cells.{in_fours}
+use Rattle.ostore_schema_layout.specs.Cells.{kind_size}
 
 -- ---- what names mean
 
@@ -40,18 +43,27 @@ target_named (kinds.DictText target) = Some target
 abbrev pub inverse_named : KindDeclaration → Option InverseDeclaration
 inverse_named (kinds.Ref target inverse) = inverse
 inverse_named (kinds.Set target inverse) = inverse
-inverse_named other = None
+inverse_named kinds.Int = None
+inverse_named (kinds.Text max) = None
+inverse_named (kinds.List target) = None
+inverse_named (kinds.DictInt target) = None
+inverse_named (kinds.DictText target) = None
+
+-- what a member of the kind holds, where its target has this number
+abbrev pub with_target : KindDeclaration → TypeNo → MemberKind
+with_target kinds.Int number = members.Int
+with_target (kinds.Text max) number = members.Text max
+with_target (kinds.Ref target inverse) number = members.Ref number
+with_target (kinds.Set target inverse) number = members.Set number
+with_target (kinds.List target) number = members.List number
+with_target (kinds.DictInt target) number = members.DictInt number
+with_target (kinds.DictText target) number = members.DictText number
 
 -- ---- cells, which count every member line of a type
 
+-- which type is the target makes no difference
 abbrev pub declared_size : KindDeclaration → ℕ
-declared_size kinds.Int = 8
-declared_size (kinds.Text max) = in_fours (1 + max)
-declared_size (kinds.Ref target inverse) = 4
-declared_size (kinds.Set target inverse) = 12
-declared_size (kinds.List target) = 8
-declared_size (kinds.DictInt target) = 8
-declared_size (kinds.DictText target) = 8
+declared_size kind = kind_size (with_target kind (record { 0 = 0 }))
 
 abbrev pub declared_sizes : List MemberDeclaration → ℕ
 declared_sizes [] = 0
@@ -71,7 +83,11 @@ names_back (Some inverse) ty member = names_this inverse ty member
 abbrev pub is_side_of : KindDeclaration → List ℕ → List ℕ → Bool
 is_side_of (kinds.Ref target inverse) ty member = bytes_eq target.name ty && names_back inverse ty member
 is_side_of (kinds.Set target inverse) ty member = bytes_eq target.name ty && names_back inverse ty member
-is_side_of other ty member = false
+is_side_of kinds.Int ty member = false
+is_side_of (kinds.Text max) ty member = false
+is_side_of (kinds.List target) ty member = false
+is_side_of (kinds.DictInt target) ty member = false
+is_side_of (kinds.DictText target) ty member = false
 
 abbrev pub is_found_side_of : Option MemberDeclaration → List ℕ → List ℕ → Bool
 is_found_side_of None ty member = false

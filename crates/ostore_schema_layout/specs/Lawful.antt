@@ -27,7 +27,11 @@ IsLawfulKind schema (kinds.DictText target) = IsType schema target.0
 abbrev pub link_target : MemberKind → Option TypeNo
 link_target (kinds.Ref target) = Some target
 link_target (kinds.Set target) = Some target
-link_target other = None
+link_target kinds.Int = None
+link_target (kinds.Text max) = None
+link_target (kinds.List target) = None
+link_target (kinds.DictInt target) = None
+link_target (kinds.DictText target) = None
 
 abbrev pub inverse_of : TypeNo → MemberNo → Inverse
 inverse_of ty member = record { ty = ty; member = member }

@@ -8,14 +8,13 @@ use Rattle.ostore_schema_layout.specs.declared.schema.TypeNo.{TypeNo}
 use Rattle.ostore_schema_layout.specs.declared.schema.MemberDef.{MemberDef}
 use Rattle.ostore_schema_layout.specs.declared.schema.MemberNo.{MemberNo}
 use Rattle.ostore_schema_layout.specs.declared.schema.MemberKind.{MemberKind}
-use Rattle.ostore_schema_layout.specs.declared.schema.MemberKind.TheVariants as kinds
 use Rattle.ostore_schema_layout.specs.declared.schema.Inverse.{Inverse}
+use Rattle.ostore_schema_layout.specs.declared.declarations.NameAt.{NameAt}
 use Rattle.ostore_schema_layout.specs.declared.declarations.TypeDeclaration.{TypeDeclaration}
 use Rattle.ostore_schema_layout.specs.declared.declarations.MemberDeclaration.{MemberDeclaration}
 use Rattle.ostore_schema_layout.specs.declared.declarations.KindDeclaration.{KindDeclaration}
-use Rattle.ostore_schema_layout.specs.declared.declarations.KindDeclaration.TheVariants as declared
 use Rattle.ostore_schema_layout.specs.declared.declarations.InverseDeclaration.{InverseDeclaration}
-use Rattle.ostore_schema_layout.specs.Faults.{type_named, members_found, inverse_named}
+use Rattle.ostore_schema_layout.specs.Faults.{type_named, members_found, target_named, inverse_named, with_target}
 
 -- types count from 1, and members from 0
 abbrev pub type_number : List TypeDeclaration → List ℕ → TypeNo
@@ -24,14 +23,12 @@ type_number types name = record { 0 = position_or_len (λ ty. bytes_eq ty.name.n
 abbrev pub member_number : List MemberDeclaration → List ℕ → MemberNo
 member_number members name = record { 0 = position_or_len (λ member. bytes_eq member.name.name name) members }
 
+abbrev pub target_number : List TypeDeclaration → Option NameAt → TypeNo
+target_number types None = record { 0 = 0 }
+target_number types (Some target) = type_number types target.name
+
 abbrev pub resolved_kind : List TypeDeclaration → KindDeclaration → MemberKind
-resolved_kind types declared.Int = kinds.Int
-resolved_kind types (declared.Text max) = kinds.Text max
-resolved_kind types (declared.Ref target inverse) = kinds.Ref (type_number types target.name)
-resolved_kind types (declared.Set target inverse) = kinds.Set (type_number types target.name)
-resolved_kind types (declared.List target) = kinds.List (type_number types target.name)
-resolved_kind types (declared.DictInt target) = kinds.DictInt (type_number types target.name)
-resolved_kind types (declared.DictText target) = kinds.DictText (type_number types target.name)
+resolved_kind types kind = with_target kind (target_number types (target_named kind))
 
 abbrev pub resolved_inverse : List TypeDeclaration → Option InverseDeclaration → Option Inverse
 resolved_inverse types None = None

@@ -1,7 +1,11 @@
 //! What the lines of a schema's text declare, with names as they stand and the places of those that may
 //! be wrong.
 
+ghost use Rattle.std.specs.Prelude.{◌≡◌, option_map};
+ghost use Rattle.ostore_schema_layout.specs.Faults.{target_named, inverse_named, with_target};
+
 use crate::lookup::Named;
+use crate::schema::{MemberKind, TypeNo};
 use ostore_base::{ListOf, Text};
 
 /// A name, and where it stands in the text.
@@ -65,6 +69,53 @@ pub enum KindDeclaration {
     DictText {
         target: NameAt,
     },
+}
+
+impl KindDeclaration {
+    /// The type that it names, and where.
+    pub fn target(&self) -> Option<&NameAt>
+        ensures { option_map (λ target. target.now) result ≡ target_named self.now }
+    {
+        match self {
+            KindDeclaration::Int | KindDeclaration::Text { .. } => None,
+            KindDeclaration::Ref { target, .. }
+            | KindDeclaration::Set { target, .. }
+            | KindDeclaration::List { target }
+            | KindDeclaration::DictInt { target }
+            | KindDeclaration::DictText { target } => Some(target),
+        }
+    }
+
+    /// The inverse that it names.
+    pub fn inverse(&self) -> Option<&InverseDeclaration>
+        ensures { option_map (λ inverse. inverse.now) result ≡ inverse_named self.now }
+    {
+        match self {
+            KindDeclaration::Ref { inverse, .. } | KindDeclaration::Set { inverse, .. } => {
+                inverse.as_ref()
+            }
+            KindDeclaration::Int
+            | KindDeclaration::Text { .. }
+            | KindDeclaration::List { .. }
+            | KindDeclaration::DictInt { .. }
+            | KindDeclaration::DictText { .. } => None,
+        }
+    }
+
+    /// What the member holds, where its target has this number.
+    pub fn with_target(&self, target: TypeNo) -> MemberKind
+        ensures { result ≡ with_target self.now target }
+    {
+        match self {
+            KindDeclaration::Int => MemberKind::Int,
+            KindDeclaration::Text { max } => MemberKind::Text { max: *max },
+            KindDeclaration::Ref { .. } => MemberKind::Ref { target },
+            KindDeclaration::Set { .. } => MemberKind::Set { target },
+            KindDeclaration::List { .. } => MemberKind::List { target },
+            KindDeclaration::DictInt { .. } => MemberKind::DictInt { target },
+            KindDeclaration::DictText { .. } => MemberKind::DictText { target },
+        }
+    }
 }
 
 /// The two names of an inverse, and where they stand.

@@ -2,14 +2,16 @@
 
 ghost use Rattle.std.specs.Prelude.{◌≡◌, ◌≤◌, [], ◌++◌, nat_lt, option_map};
 ghost use Rattle.ostore_schema_layout.specs.Limits.{largest_cell};
-ghost use Rattle.ostore_schema_layout.specs.Faults.{type_named as type_named_in, member_named as member_named_in, inverse_named as inverse_named_of, target_named as target_named_of, is_found_side_of, is_side_of as is_side_for, members_found, is_inverse as is_inverse_of, names_this as names_this_of, declared_size as declared_size_of, declared_sizes, target_faults, inverse_faults, member_faults, members_faults, name_faults, types_faults, faults_of, first_of};
+ghost use Rattle.ostore_schema_layout.specs.Faults.{type_named as type_named_in, member_named as member_named_in, inverse_named as inverse_named_of, target_named as target_named_of, is_found_side_of, is_side_of as is_side_for, members_found, is_inverse as is_inverse_of, names_this as names_this_of, names_back as names_back_to, declared_sizes, target_faults, inverse_faults, member_faults, members_faults, name_faults, types_faults, faults_of, first_of};
 
+use crate::cells::kind_size;
 use crate::declarations::{
-    InverseDeclaration, KindDeclaration, MemberDeclaration, NameAt, TypeDeclaration,
+    InverseDeclaration, KindDeclaration, MemberDeclaration, TypeDeclaration,
 };
 use crate::fault::SchemaFault;
 use crate::lookup::first_named;
 use crate::reading::names::members_named;
+use crate::schema::TypeNo;
 
 /// The most types that a schema may have.
 const MOST_TYPES: usize = 64;
@@ -20,45 +22,8 @@ const MOST_MEMBERS: usize = 32;
 /// The largest cell of a type, in bytes.
 const LARGEST_CELL: usize = 1_000;
 
-/// The type that a kind names, and where.
-fn target_named(kind: &KindDeclaration) -> Option<&NameAt>
-    ensures { option_map (λ target. target.now) result ≡ target_named_of kind.now }
-{
-    match kind {
-        KindDeclaration::Int | KindDeclaration::Text { .. } => None,
-        KindDeclaration::Ref { target, .. }
-        | KindDeclaration::Set { target, .. }
-        | KindDeclaration::List { target }
-        | KindDeclaration::DictInt { target }
-        | KindDeclaration::DictText { target } => Some(target),
-    }
-}
-
-/// The inverse that a kind names.
-pub(super) fn inverse_named(kind: &KindDeclaration) -> Option<&InverseDeclaration>
-    ensures { option_map (λ inverse. inverse.now) result ≡ inverse_named_of kind.now }
-{
-    match kind {
-        KindDeclaration::Ref { inverse, .. } | KindDeclaration::Set { inverse, .. } => {
-            inverse.as_ref()
-        }
-        _ => None,
-    }
-}
-
-/// How many bytes a member of the kind takes in a cell.
-fn declared_size(kind: &KindDeclaration) -> usize
-    ensures size { result ≡ declared_size_of kind.now }
-    ensures small { result ≤ 256 }
-{
-    match kind {
-        // a byte for the length and then the text, in fours
-        KindDeclaration::Text { max } => (1 + usize::from(*max) + 3) / 4 * 4,
-        KindDeclaration::Ref { .. } => 4,
-        KindDeclaration::Set { .. } => 12,
-        _ => 8,
-    }
-}
+/// A target that stands for any: the size of a member doesn't depend on which type it leads to.
+const ANY_TYPE: TypeNo = TypeNo(0);
 
 /// Whether the members take more than the largest cell.
 fn is_too_large(members: &[MemberDeclaration]) -> bool
@@ -66,7 +31,7 @@ fn is_too_large(members: &[MemberDeclaration]) -> bool
 {
     let mut size = 0;
     for member in members {
-        size += declared_size(&member.kind);
+        size += usize::from(kind_size(member.kind.with_target(ANY_TYPE)));
         if size > LARGEST_CELL {
             return true;
         }
@@ -81,20 +46,29 @@ fn names_this(inverse: &InverseDeclaration, ty: &[u8], member: &[u8]) -> bool
     inverse.ty.bytes() == ty && inverse.member.bytes() == member
 }
 
+/// Whether there is an inverse, and it is named `TYPE.MEMBER`.
+fn names_back(inverse: Option<&InverseDeclaration>, ty: &[u8], member: &[u8]) -> bool
+    ensures { result ≡ names_back_to (option_map (λ inverse. inverse.now) inverse.entry) ty.now member.now }
+{
+    match inverse {
+        Some(inverse) => names_this(inverse, ty, member),
+        None => false,
+    }
+}
+
 /// Whether the kind is a reference or a set of this type, whose inverse is this member.
 fn is_side_of(kind: &KindDeclaration, ty: &[u8], member: &[u8]) -> bool
     ensures { result ≡ is_side_for kind.now ty.now member.now }
 {
     match kind {
-        KindDeclaration::Ref {
-            target,
-            inverse: Some(inverse),
+        KindDeclaration::Ref { target, inverse } | KindDeclaration::Set { target, inverse } => {
+            target.name.bytes() == ty && names_back(inverse.as_ref(), ty, member)
         }
-        | KindDeclaration::Set {
-            target,
-            inverse: Some(inverse),
-        } => { target.name.bytes() == ty && names_this(inverse, ty, member) }
-        _ => false,
+        KindDeclaration::Int
+        | KindDeclaration::Text { .. }
+        | KindDeclaration::List { .. }
+        | KindDeclaration::DictInt { .. }
+        | KindDeclaration::DictText { .. } => false,
     }
 }
 
@@ -139,11 +113,11 @@ fn link_fault(
     ensures { result ≡ first_of (target_faults types.now (target_named_of member.now.kind)
         ++ inverse_faults types.now ty.now member.now.name.name (target_named_of member.now.kind) (inverse_named_of member.now.kind)) }
 {
-    let target = target_named(&member.kind)?;
+    let target = member.kind.target()?;
     if first_named(types, target.name.bytes()).is_none() {
         return Some(SchemaFault::UnknownType { at: target.at });
     }
-    let inverse = inverse_named(&member.kind)?;
+    let inverse = member.kind.inverse()?;
     if !is_inverse(
         types,
         ty,

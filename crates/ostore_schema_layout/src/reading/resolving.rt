@@ -8,7 +8,6 @@ ghost use Rattle.ostore_schema_layout.specs.Limits.{most_types, most_members};
 
 use crate::declarations::{KindDeclaration, MemberDeclaration, TypeDeclaration};
 use crate::lookup::place_named;
-use crate::reading::faults::inverse_named;
 use crate::reading::names::members_named;
 use crate::schema::{Inverse, MemberDef, MemberKind, MemberNo, Schema, TypeDef, TypeNo};
 use ostore_base::{ListOf, OutOfMemory};
@@ -37,25 +36,11 @@ fn resolved_kind(types: &[TypeDeclaration], kind: &KindDeclaration) -> MemberKin
     requires { length types.now ≤ most_types }
     ensures { result ≡ resolved_kind_of types.now kind.now }
 {
-    match kind {
-        KindDeclaration::Int => MemberKind::Int,
-        KindDeclaration::Text { max } => MemberKind::Text { max: *max },
-        KindDeclaration::Ref { target, .. } => MemberKind::Ref {
-            target: type_number(types, target.name.bytes()),
-        },
-        KindDeclaration::Set { target, .. } => MemberKind::Set {
-            target: type_number(types, target.name.bytes()),
-        },
-        KindDeclaration::List { target } => MemberKind::List {
-            target: type_number(types, target.name.bytes()),
-        },
-        KindDeclaration::DictInt { target } => MemberKind::DictInt {
-            target: type_number(types, target.name.bytes()),
-        },
-        KindDeclaration::DictText { target } => MemberKind::DictText {
-            target: type_number(types, target.name.bytes()),
-        },
-    }
+    let target = match kind.target() {
+        Some(target) => type_number(types, target.name.bytes()),
+        None => TypeNo(0),
+    };
+    kind.with_target(target)
 }
 
 /// The inverse that a kind names, with the numbers of its type and its member.
@@ -63,7 +48,7 @@ fn resolved_inverse(types: &[TypeDeclaration], kind: &KindDeclaration) -> Option
     requires { AreFew types.now }
     ensures { result ≡ resolved_inverse_of types.now (inverse_named_of kind.now) }
 {
-    let inverse = inverse_named(kind)?;
+    let inverse = kind.inverse()?;
     let members = members_named(types, inverse.ty.bytes());
     Some(Inverse {
         ty: type_number(types, inverse.ty.bytes()),
