@@ -15,7 +15,7 @@ use Rattle.ostore_relocation.proofs.PlaceLaws.{lie_higher, lie_order}
 use Rattle.ostore_relocation.proofs.PageLaws.{changed_append, end_low}
 use Rattle.ostore_relocation.proofs.StoreLaws.{beside_all}
 use Rattle.ostore_relocation.proofs.ZeroLaws.{all_both, all_one_of, apart_runs, lie_back, lie_front, zero_of, zeros_stay}
-use Rattle.ostore_relocation.proofs.OutsideLaws.{LeaveNames, SameOutside, has_form, leave_names, same_end, same_pointers, same_replaced}
+use Rattle.ostore_relocation.proofs.OutsideLaws.{SameOutside, has_form, leave_names, same_end, same_pointers, same_replaced}
 
 -- a pointer leads to a page's frame
 abbrev pub Leads : List (Option PageNo) → List ℕ → ℕ → Type 0

@@ -1,11 +1,11 @@
 -- The two forms of a pointer, computed, lead alike.
-use Rattle.std.proofs.Common.{◌≡◌, ◌≢◌, ℕ, zero, suc, ◌+◌, ◌*◌, ◌/◌, ◌%◌, ◌<◌, ◌≤◌, List, [], ◌∷◌, Option, Some, None, refl, sym, ap, subst, ◌∙◌, arith, inl, inr}
+use Rattle.std.proofs.Common.{◌≡◌, ◌≢◌, ℕ, zero, suc, ◌+◌, ◌*◌, ◌%◌, ◌≤◌, List, [], ◌∷◌, Option, Some, None, refl, sym, ap, subst, ◌∙◌, arith, inl, inr}
 use Rattle.std.specs.List.{AllByRecursion}
 use Rattle.std.proofs.lemmas.Bool.{cases_eq}
 use Rattle.ostore_base.specs.declared.numbers.PageNo.{PageNo}
 use Rattle.ostore_page_tags.specs.Numbers.{number_at}
 use Rattle.ostore_address_space.specs.declared.space.Frame.{Frame}
-use Rattle.ostore_address_space.specs.Frames.{AreFrames, frame_of, page_in}
+use Rattle.ostore_address_space.specs.Frames.{frame_of, page_in}
 use Rattle.ostore_address_space.proofs.FrameLaws.{frame_page}
 use Rattle.ostore_relocation.specs.Pointers.{HasStored, IsResidentOf, LeadAlike, frame_number, page_number, resident_pointer, same_place_in, stored_pointer, target}
 use Rattle.ostore_relocation.proofs.ChangeLaws.{moved_none, moved_some}

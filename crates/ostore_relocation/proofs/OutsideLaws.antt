@@ -1,5 +1,5 @@
 -- Images that are the same outside some pointers have their pointers at the same places.
-use Rattle.std.proofs.Common.{◌≡◌, ◌≢◌, ◌⊎◌, ℕ, ◌+◌, ◌-◌, ◌*◌, ◌<◌, ◌≤◌, Bool, true, false, cond, eqb, leb, ◌&&◌, List, length, get_or, map, Option, refl, sym, ap, subst, ◌∙◌, arith, inl, inr}
+use Rattle.std.proofs.Common.{◌≡◌, ℕ, ◌+◌, ◌-◌, ◌*◌, ◌≤◌, Bool, true, false, cond, eqb, leb, ◌&&◌, List, length, get_or, map, Option, refl, sym, ap, subst, ◌∙◌, arith, inl, inr}
 use Rattle.std.specs.List.{AllByRecursion, flat_map, range_with_len}
 use Rattle.std.proofs.lemmas.Bool.{cases_lt}
 use Rattle.ostore_base.specs.Disk.{replaced}
@@ -8,7 +8,6 @@ use Rattle.ostore_schema_layout.specs.declared.schema.Schema.{Schema}
 use Rattle.ostore_page_tags.specs.declared.page_header.PageHeader.{PageHeader}
 use Rattle.ostore_page_tags.specs.Header.{header_of}
 use Rattle.ostore_page_tags.specs.Rows.{row_in, rows_of}
-use Rattle.ostore_page_tags.specs.Numbers.{number_at}
 use Rattle.ostore_page_tags.proofs.bytes.ImageLaws.{number_at-same, get_or-replaced_at, length-replaced_within, SameOn-replaced_before, SameOn-replaced_behind}
 use Rattle.ostore_page_tags.proofs.parts.CellLaws.{header_of-same, row_in-same}
 use Rattle.ostore_page_tags.proofs.shape.RangeLaws.{map-range-same}

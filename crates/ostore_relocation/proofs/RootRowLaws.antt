@@ -1,6 +1,6 @@
 -- A root's row that is written into the resident page of roots is written, with the pointer stored, into the
 -- page's stored form.
-use Rattle.std.proofs.Common.{◌≡◌, ◌≢◌, ◌⊎◌, ℕ, zero, suc, ◌+◌, ◌-◌, ◌*◌, ◌^◌, ◌<◌, ◌≤◌, Bool, true, false, cond, eqb, List, [], ◌∷◌, ◌++◌, length, get_or, drop, Option, None, refl, sym, ap, subst, ◌∙◌, arith, inl, inr}
+use Rattle.std.proofs.Common.{◌≡◌, ◌≢◌, ℕ, zero, suc, ◌+◌, ◌-◌, ◌<◌, ◌≤◌, cond, eqb, List, [], ◌∷◌, ◌++◌, length, get_or, drop, Option, None, refl, sym, ap, subst, ◌∙◌, arith, inl, inr}
 use Rattle.std.specs.List.{AllByRecursion, flat_map, range_with_len}
 use Rattle.std.proofs.lemmas.Bool.{cases_lt, cases_eq, eq-eqb, ne_eqb}
 use Rattle.std.proofs.lemmas.List.{append_assoc, drop-drop, get_or_append_left, get_or_default, same_lists}
@@ -13,11 +13,10 @@ use Rattle.ostore_page_tags.specs.Numbers.{number_at, with_number}
 use Rattle.ostore_page_tags.proofs.bytes.ImageLaws.{drop-replaced_at, length-replaced_within, length-with_number, number_at-same, number_at-replaced_before, number_at-replaced_behind}
 use Rattle.ostore_address_space.specs.Frames.{page_in}
 use Rattle.ostore_relocation.specs.Places.{IsBeside, LieBetween, name_length, root_place, root_pointer, root_pointers}
-use Rattle.ostore_relocation.specs.Pointers.{stored_pointer, target, with_pointer, with_pointers}
-use Rattle.ostore_relocation.specs.Forms.{HavePages, IsResidentPage, stored_form}
+use Rattle.ostore_relocation.specs.Pointers.{stored_pointer, target, with_pointers}
+use Rattle.ostore_relocation.specs.Forms.{IsResidentPage, stored_form}
 use Rattle.ostore_relocation.specs.Stores.{LeadsToFrame, StoresAs, stored_root}
-use Rattle.ostore_relocation.proofs.PlaceLaws.{lie_higher, lie_lower, lie_order}
-use Rattle.ostore_relocation.proofs.ChangeLaws.{long_changed}
+use Rattle.ostore_relocation.proofs.PlaceLaws.{lie_higher, lie_order}
 use Rattle.ostore_relocation.proofs.PageLaws.{changed_append, keeps}
 use Rattle.ostore_relocation.proofs.RootLaws.{lie_root, lie_roots, lie_roots_from, roots_are, roots_split}
 use Rattle.ostore_relocation.proofs.StoreLaws.{beside_all, in_new, out_kept}

@@ -1,6 +1,6 @@
 -- Where the pointers of a page stand. A pointer has 4 bytes. Pages of objects have pointers in their live
 -- cells, and the page of roots has one in each row of a root. No other page has any.
-use Rattle.std.specs.Prelude.{◌≡◌, ◌⊎◌, ℕ, ◌+◌, ◌-◌, ◌*◌, ◌<◌, ◌≤◌, Bool, ◌&&◌, ◌==◌, nat_le, if◌then◌else◌, List, [], ◌∷◌, map}
+use Rattle.std.specs.Prelude.{◌≡◌, ◌⊎◌, ℕ, ◌+◌, ◌*◌, ◌<◌, ◌≤◌, Bool, ◌&&◌, ◌==◌, nat_le, if◌then◌else◌, List, [], ◌∷◌, map}
 use Rattle.std.specs.List.{flat_map, range_with_len}
 use Rattle.ostore_base.specs.Limits.{most_roots}
 use Rattle.ostore_schema_layout.specs.declared.schema.Schema.{Schema}

@@ -1,5 +1,5 @@
 -- Bytes and pointers that are written into a resident image, and what that makes of its stored form.
-use Rattle.std.specs.Prelude.{◌≡◌, ◌≢◌, ℕ, ◌+◌, ◌≤◌, ◌<◌, ◌==◌, if◌then◌else◌, List, ◌++◌, length, Option, None, slice_index}
+use Rattle.std.specs.Prelude.{◌≡◌, ◌≢◌, ℕ, ◌+◌, ◌≤◌, ◌==◌, if◌then◌else◌, List, ◌++◌, length, Option, None}
 use Rattle.std.specs.List.{AllByRecursion}
 use Rattle.ostore_base.specs.Disk.{replaced}
 use Rattle.ostore_base.specs.declared.numbers.PageNo.{PageNo}

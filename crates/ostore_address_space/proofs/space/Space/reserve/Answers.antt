@@ -1,5 +1,4 @@
-use Rattle.std.proofs.Common.{ℕ, ◌<◌, List, Option, ap, sym, subst, ◌∙◌}
-use Rattle.ostore_base.specs.declared.numbers.PageNo.{PageNo}
+use Rattle.std.proofs.Common.{ℕ, ◌<◌, sym, subst}
 use Rattle.ostore_address_space.specs.Frames.{Frames, KeepsFrames}
 use Rattle.ostore_address_space.proofs.PairLaws.{give_keeps}
 use Rattle.ostore_address_space.proofs.space.Space.reserve.Goals as goal
