@@ -3,7 +3,6 @@
 #![tactic(auto)]
 
 mod answers;
-mod mapper;
 mod outcome;
 mod plain;
 mod streams;
@@ -11,7 +10,7 @@ mod top;
 mod trying;
 mod words;
 
-pub use mapper::{High, Low, Mapper, Mixed};
+pub use ostore_address_space::{High, Low, Mapper, Mixed};
 pub use outcome::{Gate, OpenGate, Outcome};
 pub use top::{ostore, ostore_turns};
 pub use words::Words;

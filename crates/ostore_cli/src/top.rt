@@ -4,9 +4,9 @@ ghost use Rattle.std.specs.Prelude.{◌≡◌};
 ghost use Rattle.ostore_cli.specs.Promise.{KeepsPromise, end_of};
 
 use crate::answers::{answer_to, print_answer};
-use crate::mapper::Mapper;
 use crate::outcome::{Gate, Outcome};
 use crate::words::Words;
+use ostore_address_space::Mapper;
 use ostore_base::{Disk, Sink, Source};
 use std::alloc::Global;
 use std::sync::Wait;

@@ -1,0 +1,15 @@
+pub mod PlaceLaws
+pub mod ChangeLaws
+pub mod LeadLaws
+pub mod PageLaws
+pub mod RootLaws
+pub mod ReserveLaws
+pub mod FormLaws
+pub mod StoreLaws
+pub mod ZeroLaws
+pub mod OutsideLaws
+pub mod MoreFrames
+pub mod BesideLaws
+pub mod PointLaws
+pub mod RootRowLaws
+pub mod FitLaws
