@@ -67,7 +67,9 @@ fn twelve_pages(alloc: Global) -> Result<Server, OutOfMemory>
 fn read(server: &mut Server, client: ClientNo, page: PageNo, into: &mut PageImage) -> Answer
     requires client { client.0 < most_clients }
     requires range { page.0 < length (opened_of server.old) }
-    ensures { opened_of server.new ≡ opened_of server.old }
+    ensures opened { opened_of server.new ≡ opened_of server.old }
+    ensures others { (d : ℕ) → d < most_clients → d ≢ client.0
+        → Undisturbed (side_of server.old d) (side_of server.new d) }
 {
     let Some(_) = server.word(page).give_up(client, false) else {
         return Answer::NotAllowed;
@@ -90,7 +92,9 @@ fn answer_of(claim: Result<(), Busy>) -> Answer {
 fn own(server: &mut Server, client: ClientNo, page: PageNo) -> Answer
     requires client { client.0 < most_clients }
     requires range { page.0 < length (opened_of server.old) }
-    ensures { opened_of server.new ≡ opened_of server.old }
+    ensures opened { opened_of server.new ≡ opened_of server.old }
+    ensures others { (d : ℕ) → d < most_clients → d ≢ client.0
+        → Undisturbed (side_of server.old d) (side_of server.new d) }
 {
     let None = server.word(page).give_up(client, false) else {
         return Answer::NotAllowed;
@@ -285,5 +289,22 @@ fn two_clients_read_the_same_two_pages(rt: HostRuntime) -> Result<(), Fail> {
         Ok(())
     );
     assert_eq!(rt; server.word(PageNo(4)), Word(0x0000_0000_0003_0003));
+    Ok(())
+}
+
+#[test]
+fn two_pages_are_claimed_or_none(rt: HostRuntime) -> Result<(), Fail> {
+    let mut server = twelve_pages(rt.alloc())?;
+    let (mut into, mut other) = (PageImage::zeroed(), PageImage::zeroed());
+    assert_eq!(rt; read(&mut server, ClientNo(1), PageNo(4), &mut into), Answer::Fetched);
+    assert_eq!(rt; own(&mut server, ClientNo(1), PageNo(4)), Answer::Owner);
+    let busy = Busy {
+        page: PageNo(4),
+        seen: 0x0000_0002_0002_0002,
+        found: 0x0000_0002_0002_0002,
+    };
+    let turn = one_turn(&mut server, ClientNo(0), PageNo(3), PageNo(4), &mut into, &mut other);
+    assert_eq!(rt; turn, Err(busy));
+    assert_eq!(rt; server.word(PageNo(3)), Word(0x0000_0000_0001_0000));
     Ok(())
 }
