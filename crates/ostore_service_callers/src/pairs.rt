@@ -50,9 +50,9 @@ fn claim_two_there<K: Kind, D: Disk>(
     requires free { HoldsNone (side_of service.old.server.now service.old.seat.client.0).held }
     ensures same { SameRecords
         (told_of service.old.server.ghost_name D.faults service.old.seat.client.0
-            service.old.server.now)
+        service.old.server.now)
         (told_of service.new.server.ghost_name D.faults service.new.seat.client.0
-            service.new.server.now) }
+        service.new.server.now) }
     ensures served { StillServes (Serves service.old.server.now) (Serves service.new.server.now) }
     ensures held { OnOk result
         (HoldsBoth (side_of service.new.server.now service.new.seat.client.0).held one.0 two.0) }

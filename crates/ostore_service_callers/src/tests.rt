@@ -67,7 +67,9 @@ fn twelve_pages(alloc: Global) -> Result<Server, OutOfMemory>
 fn read(server: &mut Server, client: ClientNo, page: PageNo, into: &mut PageImage) -> Answer
     requires client { client.0 < most_clients }
     requires range { page.0 < length (opened_of server.old) }
-    ensures { opened_of server.new ≡ opened_of server.old }
+    ensures opened { opened_of server.new ≡ opened_of server.old }
+    ensures others { (d : ℕ) → d < most_clients → d ≢ client.0
+        → Undisturbed (side_of server.old d) (side_of server.new d) }
 {
     let Some(_) = server.word(page).give_up(client, false) else {
         return Answer::NotAllowed;
@@ -90,7 +92,9 @@ fn answer_of(claim: Result<(), Busy>) -> Answer {
 fn own(server: &mut Server, client: ClientNo, page: PageNo) -> Answer
     requires client { client.0 < most_clients }
     requires range { page.0 < length (opened_of server.old) }
-    ensures { opened_of server.new ≡ opened_of server.old }
+    ensures opened { opened_of server.new ≡ opened_of server.old }
+    ensures others { (d : ℕ) → d < most_clients → d ≢ client.0
+        → Undisturbed (side_of server.old d) (side_of server.new d) }
 {
     let None = server.word(page).give_up(client, false) else {
         return Answer::NotAllowed;
@@ -149,23 +153,32 @@ fn play(rt: &impl Abort, server: &mut Server, steps: &[(u16, Call, Answer, u64)]
         assert!(rt; client.is_within_limit());
         let given = answer_to(server, *call, client, PageNo(10));
         assert_eq!(rt; given, *answer, "{call:?} of client {}", client.0);
-        assert_eq!(rt; server.word(PageNo(10)), Word(*word), "{call:?} of client {}", client.0);
+        assert_eq!(rt;
+            server.word(PageNo(10)),
+            Word(*word),
+            "{call:?} of client {}",
+            client.0
+        );
     }
 }
 
 #[test]
 fn a_client_uses_keeps_and_owns_a_page(rt: HostRuntime) -> Result<(), Fail> {
     let mut server = twelve_pages(rt.alloc())?;
-    play(&rt, &mut server, &[
-        (0, Call::Read, Answer::Fetched, 0x0000_0000_0001_0001),
-        (0, Call::Own, Answer::Owner, 0x0000_0001_0001_0001),
-        (0, Call::Own, Answer::Owner, 0x0000_0001_0001_0001),
-        (0, Call::Release, Answer::Kept, 0x0000_0000_0001_0000),
-        (0, Call::Read, Answer::Kept, 0x0000_0000_0001_0001),
-        (0, Call::Release, Answer::Kept, 0x0000_0000_0001_0000),
-        (0, Call::Drop, Answer::Dropped, 0),
-        (0, Call::Read, Answer::Fetched, 0x0000_0000_0001_0001),
-    ]);
+    play(
+        &rt,
+        &mut server,
+        &[
+            (0, Call::Read, Answer::Fetched, 0x0000_0000_0001_0001),
+            (0, Call::Own, Answer::Owner, 0x0000_0001_0001_0001),
+            (0, Call::Own, Answer::Owner, 0x0000_0001_0001_0001),
+            (0, Call::Release, Answer::Kept, 0x0000_0000_0001_0000),
+            (0, Call::Read, Answer::Kept, 0x0000_0000_0001_0001),
+            (0, Call::Release, Answer::Kept, 0x0000_0000_0001_0000),
+            (0, Call::Drop, Answer::Dropped, 0),
+            (0, Call::Read, Answer::Fetched, 0x0000_0000_0001_0001),
+        ],
+    );
     Ok(())
 }
 
@@ -175,14 +188,18 @@ fn a_claim_to_own_beside_a_user_makes_the_first_release_give_up(
 ) -> Result<(), Fail> {
     let mut server = twelve_pages(rt.alloc())?;
     let (before, wanted) = (0x0000_0000_0003_0003, 0x0000_0400_0003_0003);
-    play(&rt, &mut server, &[
-        (0, Call::Read, Answer::Fetched, 0x0000_0000_0001_0001),
-        (1, Call::Read, Answer::Fetched, before),
-        (1, Call::Own, Answer::Busy(before, before), wanted),
-        (0, Call::Own, Answer::Busy(wanted, wanted), wanted),
-        (1, Call::Release, Answer::GivenUp, 0x0000_0000_0001_0001),
-        (0, Call::Own, Answer::Owner, 0x0000_0001_0001_0001),
-    ]);
+    play(
+        &rt,
+        &mut server,
+        &[
+            (0, Call::Read, Answer::Fetched, 0x0000_0000_0001_0001),
+            (1, Call::Read, Answer::Fetched, before),
+            (1, Call::Own, Answer::Busy(before, before), wanted),
+            (0, Call::Own, Answer::Busy(wanted, wanted), wanted),
+            (1, Call::Release, Answer::GivenUp, 0x0000_0000_0001_0001),
+            (0, Call::Own, Answer::Owner, 0x0000_0001_0001_0001),
+        ],
+    );
     Ok(())
 }
 
@@ -190,16 +207,25 @@ fn a_claim_to_own_beside_a_user_makes_the_first_release_give_up(
 fn an_owner_takes_the_copies_of_the_others(rt: HostRuntime) -> Result<(), Fail> {
     let mut server = twelve_pages(rt.alloc())?;
     let owned = 0x0000_0001_0001_0001;
-    play(&rt, &mut server, &[
-        (1, Call::Read, Answer::Fetched, 0x0000_0000_0002_0002),
-        (1, Call::Release, Answer::Kept, 0x0000_0000_0002_0000),
-        (0, Call::Read, Answer::Fetched, 0x0000_0000_0003_0001),
-        (0, Call::Own, Answer::Owner, owned),
-        (1, Call::Drop, Answer::Dropped, owned),
-        (1, Call::Read, Answer::Busy(owned, owned), 0x0000_0401_0001_0001),
-        (0, Call::Release, Answer::GivenUp, 0),
-        (1, Call::Read, Answer::Fetched, 0x0000_0000_0002_0002),
-    ]);
+    play(
+        &rt,
+        &mut server,
+        &[
+            (1, Call::Read, Answer::Fetched, 0x0000_0000_0002_0002),
+            (1, Call::Release, Answer::Kept, 0x0000_0000_0002_0000),
+            (0, Call::Read, Answer::Fetched, 0x0000_0000_0003_0001),
+            (0, Call::Own, Answer::Owner, owned),
+            (1, Call::Drop, Answer::Dropped, owned),
+            (
+                1,
+                Call::Read,
+                Answer::Busy(owned, owned),
+                0x0000_0401_0001_0001,
+            ),
+            (0, Call::Release, Answer::GivenUp, 0),
+            (1, Call::Read, Answer::Fetched, 0x0000_0000_0002_0002),
+        ],
+    );
     Ok(())
 }
 
@@ -217,8 +243,13 @@ fn number_of(server: &mut Server, client: ClientNo, page: PageNo) -> Option<u8>
 }
 
 /// An addition by client 0 at the server.
-fn add_at(alloc: Global, server: &mut Server, ordinal: u32, page: PageNo, amount: u8)
-    -> Result<u64, AddFault>
+fn add_at(
+    alloc: Global,
+    server: &mut Server,
+    ordinal: u32,
+    page: PageNo,
+    amount: u8,
+) -> Result<u64, AddFault>
     requires range { page.0 < length (opened_of server.old) }
     requires ordinal { ordinal ≢ 0 }
     requires empty { IsEmpty (side_of server.old 0) }
@@ -237,7 +268,10 @@ fn a_commit_puts_its_image_in_place_and_an_abort_leaves_it(rt: HostRuntime) -> R
     assert_eq!(rt; number_of(&mut server, ClientNo(1), page), Some(5));
     assert_eq!(rt; release(&mut server, ClientNo(1), page), Answer::Kept);
     let mut copy = PageImage::zeroed();
-    assert_eq!(rt; read(&mut server, ClientNo(2), page, &mut copy), Answer::Fetched);
+    assert_eq!(rt;
+        read(&mut server, ClientNo(2), page, &mut copy),
+        Answer::Fetched
+    );
     assert_eq!(rt; own(&mut server, ClientNo(2), page), Answer::Owner);
     copy.bytes[0] = 9;
     assert_eq!(rt; release(&mut server, ClientNo(2), page), Answer::Kept);
@@ -250,7 +284,27 @@ fn a_commit_puts_its_image_in_place_and_an_abort_leaves_it(rt: HostRuntime) -> R
 fn two_clients_read_the_same_two_pages(rt: HostRuntime) -> Result<(), Fail> {
     let mut server = twelve_pages(rt.alloc())?;
     let (mut into, mut other) = (PageImage::zeroed(), PageImage::zeroed());
-    assert_eq!(rt; two_turns(&mut server, PageNo(3), PageNo(4), &mut into, &mut other), Ok(()));
+    assert_eq!(rt;
+        two_turns(&mut server, PageNo(3), PageNo(4), &mut into, &mut other),
+        Ok(())
+    );
     assert_eq!(rt; server.word(PageNo(4)), Word(0x0000_0000_0003_0003));
+    Ok(())
+}
+
+#[test]
+fn two_pages_are_claimed_or_none(rt: HostRuntime) -> Result<(), Fail> {
+    let mut server = twelve_pages(rt.alloc())?;
+    let (mut into, mut other) = (PageImage::zeroed(), PageImage::zeroed());
+    assert_eq!(rt; read(&mut server, ClientNo(1), PageNo(4), &mut into), Answer::Fetched);
+    assert_eq!(rt; own(&mut server, ClientNo(1), PageNo(4)), Answer::Owner);
+    let busy = Busy {
+        page: PageNo(4),
+        seen: 0x0000_0002_0002_0002,
+        found: 0x0000_0002_0002_0002,
+    };
+    let turn = one_turn(&mut server, ClientNo(0), PageNo(3), PageNo(4), &mut into, &mut other);
+    assert_eq!(rt; turn, Err(busy));
+    assert_eq!(rt; server.word(PageNo(3)), Word(0x0000_0000_0001_0000));
     Ok(())
 }
