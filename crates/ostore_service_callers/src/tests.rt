@@ -296,14 +296,24 @@ fn two_clients_read_the_same_two_pages(rt: HostRuntime) -> Result<(), Fail> {
 fn two_pages_are_claimed_or_none(rt: HostRuntime) -> Result<(), Fail> {
     let mut server = twelve_pages(rt.alloc())?;
     let (mut into, mut other) = (PageImage::zeroed(), PageImage::zeroed());
-    assert_eq!(rt; read(&mut server, ClientNo(1), PageNo(4), &mut into), Answer::Fetched);
+    assert_eq!(rt;
+        read(&mut server, ClientNo(1), PageNo(4), &mut into),
+        Answer::Fetched
+    );
     assert_eq!(rt; own(&mut server, ClientNo(1), PageNo(4)), Answer::Owner);
     let busy = Busy {
         page: PageNo(4),
         seen: 0x0000_0002_0002_0002,
         found: 0x0000_0002_0002_0002,
     };
-    let turn = one_turn(&mut server, ClientNo(0), PageNo(3), PageNo(4), &mut into, &mut other);
+    let turn = one_turn(
+        &mut server,
+        ClientNo(0),
+        PageNo(3),
+        PageNo(4),
+        &mut into,
+        &mut other,
+    );
     assert_eq!(rt; turn, Err(busy));
     assert_eq!(rt; server.word(PageNo(3)), Word(0x0000_0000_0001_0000));
     Ok(())
