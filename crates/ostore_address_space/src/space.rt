@@ -36,15 +36,16 @@ pub struct Space {
 }
 
 impl Model for Space {
-    ghost use Rattle.std.specs.Prelude.{◌≡◌, ◌≤◌, ℕ, length, vec_len, vec_capacity};
-    ghost use Rattle.ostore_address_space.specs.Frames.{Frames, frames_of, free_frames, AreFrames};
-    ghost use Rattle.ostore_address_space.specs.inside.Kept.{AreIndexed};
+    ghost use Rattle.std.specs.Prelude.{vec_capacity};
+    ghost use Rattle.ostore_address_space.specs.Frames.{Frames, frames_of};
+    ghost use Rattle.ostore_address_space.specs.inside.Kept.{IsKept};
 
     ghost Value = { Frames };
 
     ghost view = { λ s. frames_of s.client s.pages.items };
 
-    ghost invariant = { λ s. (AreFrames s.pages.items) × (AreIndexed s.pages.items s.frames.items) × (s.free.items ≡ free_frames s.pages.items) × (length s.pages.items ≤ vec_capacity s.free) };
+    ghost invariant = { λ s. let room = vec_capacity s.free in
+        IsKept s.pages.items s.frames.items s.free.items room };
 }
 
 /// Makes the list of all frames, ascending. There is room for them.
@@ -137,7 +138,8 @@ impl Space {
         requires none { frame_of self.old.pages page.0 ≡ None }
         requires free { index < length (free_frames self.old.pages) }
         ensures frame { result.0 ≡ slice_index (free_frames self.old.pages) index }
-        ensures given { self.new ≡ frames_of self.old.client (with_page self.old.pages result.0 page) }
+        ensures given { let pages = with_page self.old.pages result.0 page in
+            self.new ≡ frames_of self.old.client pages }
         ensures there { frame_of self.new.pages page.0 ≡ Some result }
     {
         let frame = self.free.remove(index as usize);
