@@ -18,7 +18,8 @@ pub fn steps_keep_exclusion(word: Word, client: ClientNo)
     ensures miss { LeadsToExclusive (MayMiss word.0 client.0) (λ n. Misses word.0 n client.0) }
     ensures fetched { LeadsToExclusive (MayEndFetch word.0 client.0)
         (λ n. EndsFetch word.0 n client.0) }
-    ensures release { LeadsToExclusive (MayRelease word.0 client.0 × (fetcher word.0 ≢ client.0 + 1))
+    ensures release { LeadsToExclusive
+        (MayRelease word.0 client.0 × (fetcher word.0 ≢ client.0 + 1))
         (λ n. Releases word.0 n client.0) }
     ensures give_up { (released : Bool) → LeadsToExclusive (MayGiveUp word.0 client.0)
         (λ n. GivesUp word.0 n client.0 released) }

@@ -87,8 +87,8 @@ pub fn nth_row(image: &PageImage, i: u16) -> Row
 pub fn cell_end(image: &PageImage, i: u16) -> u16
     requires page { IsPage image.now.bytes }
     requires there { i < length (rows_of image.now.bytes) }
-    ensures { option_map (λ cell. cell.row.offset + length cell.bytes) (slice_get (cells_of image.now.bytes) i)
-        ≡ Some result }
+    ensures { let cell = slice_get (cells_of image.now.bytes) i in
+        option_map (λ cell. cell.row.offset + length cell.bytes) cell ≡ Some result }
 {
     if i + 1 < rows(image) {
         stored_row(image, i + 1).offset
