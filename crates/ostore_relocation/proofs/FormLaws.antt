@@ -115,7 +115,7 @@ have_frames frames bytes (at ∷ places) all =
 
 -- ---- where the pointers of a page lie
 
-nine_no_data : (page : ℕ) (bytes : List ℕ) → page ≡ 9 → holds_objects page bytes ≡ false
+pub nine_no_data : (page : ℕ) (bytes : List ℕ) → page ≡ 9 → holds_objects page bytes ≡ false
 nine_no_data page bytes is = rw is refl
 
 lie_as : (schema : Schema) (page : ℕ) (bytes : List ℕ) (nine holds : Bool) → eqb page 9 ≡ nine → holds_objects page bytes ≡ holds → length bytes ≡ 4096 → (holds ≡ true → HasCells schema bytes)

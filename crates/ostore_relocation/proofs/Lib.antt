@@ -13,3 +13,4 @@ pub mod BesideLaws
 pub mod PointLaws
 pub mod RootRowLaws
 pub mod FitLaws
+pub mod RowPointers

@@ -5,7 +5,7 @@ use Rattle.ostore_base.specs.Disk.{replaced}
 use Rattle.ostore_base.specs.declared.numbers.PageNo.{PageNo}
 use Rattle.ostore_schema_layout.specs.declared.schema.Schema.{Schema}
 use Rattle.ostore_page_tags.specs.Numbers.{number_at, with_number}
-use Rattle.ostore_address_space.specs.Frames.{page_in}
+use Rattle.ostore_address_space.specs.Frames.{KeepsFrames, page_in}
 use Rattle.ostore_page_tags.specs.declared.layout.TheConstants.{NAME_LENGTH_IN_ROOT, POINTER_IN_ROOT}
 use Rattle.ostore_relocation.specs.Places.{LieBetween, IsBeside, page_pointers}
 use Rattle.ostore_relocation.specs.Pointers.{stored_pointer, target}
@@ -39,3 +39,9 @@ stored_root pages row =
 pub record StoresAs (pages : List (Option PageNo)) (schema : Schema) (page : ℕ) (new stored : List ℕ) : Type 0 where
   pub form : stored_form pages schema page new ≡ stored
   pub resident : IsResidentPage pages schema page new
+
+-- images that were resident in earlier frames, which these keep, are so in these, and their stored form is the same
+abbrev pub StoreTheSame : List (Option PageNo) → Schema → Type 0
+StoreTheSame pages schema =
+    (earlier : List (Option PageNo)) (page : ℕ) (bytes : List ℕ) → KeepsFrames earlier pages
+    → IsResidentPage earlier schema page bytes → StoresAs pages schema page bytes (stored_form earlier schema page bytes)

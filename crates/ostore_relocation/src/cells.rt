@@ -23,7 +23,8 @@ fn change_cell(
     form: Form,
 )
     requires within { AllByRecursion (λ at. offset + at + 4 ≤ PAGE_SIZE) pointers }
-    ensures { image.new.bytes ≡ with_pointers (pointer_in form space.now.pages) (map (λ at. offset + at) pointers.entry) image.old.bytes }
+    ensures { let places = map (λ at. offset + at) pointers.entry in
+        image.new.bytes ≡ with_pointers (pointer_in form space.now.pages) places image.old.bytes }
 {
     let mut pointers = pointers;
     while let Some(at) = pointers.next() {
@@ -35,7 +36,8 @@ fn change_cell(
 pub(crate) fn change_cells(image: &mut PageImage, schema: &Schema, space: &Space, form: Form)
     requires lawful { IsLawful schema.now }
     requires cells { HasCells schema.now image.old.bytes }
-    ensures changed { image.new.bytes ≡ with_pointers (pointer_in form space.now.pages) (cell_pointers schema.now image.old.bytes) image.old.bytes }
+    ensures changed { let places = cell_pointers schema.now image.old.bytes in
+        image.new.bytes ≡ with_pointers (pointer_in form space.now.pages) places image.old.bytes }
 {
     for i in 0..rows(image) {
         let row = nth_row(image, i);

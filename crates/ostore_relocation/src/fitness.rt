@@ -111,7 +111,8 @@ fn cell_leads(image: &PageImage, offset: u16, pointers: Pointers<'_>) -> bool
 fn cells_lead(image: &PageImage, schema: &Schema) -> bool
     requires lawful { IsLawful schema.now }
     requires cells { HasCells schema.now image.now.bytes }
-    ensures { IsTrue result ↔ LeadToPages image.now.bytes (cell_pointers schema.now image.now.bytes) }
+    ensures { let places = cell_pointers schema.now image.now.bytes in
+        IsTrue result ↔ LeadToPages image.now.bytes places }
 {
     for i in 0..rows(image) {
         let row = nth_row(image, i);

@@ -2,18 +2,21 @@
 //! calls its function. The stored form stands for what a resident image means, so each law says of a write
 //! to the one what it is to the other.
 
-ghost use Rattle.std.specs.Prelude.{◌≡◌, ◌<◌, length};
+ghost use Rattle.std.specs.Prelude.{◌≡◌, ◌<◌, ◌+◌, length, true, Some, IsTrue};
+ghost use Rattle.std.specs.List.{slice_get};
 ghost use Rattle.ostore_base.specs.Limits.{most_roots};
 ghost use Rattle.ostore_base.specs.Disk.{replaced};
 ghost use Rattle.ostore_page_tags.specs.Numbers.{number_at, with_number};
-ghost use Rattle.ostore_address_space.specs.Frames.{KeepsFrames};
-ghost use Rattle.ostore_relocation.specs.Places.{IsOneOf, page_pointers, root_place};
+ghost use Rattle.ostore_page_tags.specs.Rows.{rows_of};
+ghost use Rattle.ostore_schema_layout.specs.Cells.{pointers_of};
+ghost use Rattle.ostore_relocation.specs.Places.{IsOneOf, holds_objects, page_pointers, root_place};
 ghost use Rattle.ostore_relocation.specs.Pointers.{stored_pointer};
 ghost use Rattle.ostore_relocation.specs.Forms.{IsResidentPage, stored_form};
-ghost use Rattle.ostore_relocation.specs.Stores.{LeadsToFrame, PutsBeside, StoresAs, stored_root};
+ghost use Rattle.ostore_relocation.specs.Stores.{LeadsToFrame, PutsBeside, StoreTheSame, StoresAs, stored_root};
 
 use ostore_address_space::{Space, frames_are_paired};
 use ostore_base::{PageImage, PageNo};
+use ostore_page_tags::Row;
 use ostore_page_tags::layout::{POINTER_IN_ROOT, ROOT_BYTES, ROOTS_PAGE};
 use ostore_schema_layout::Schema;
 
@@ -62,20 +65,23 @@ pub fn root_row_is_stored(image: &PageImage, schema: &Schema, space: &Space, i: 
     requires whole { length row.now ≡ ROOT_BYTES }
     requires leads { LeadsToFrame space.now.pages (number_at 4 POINTER_IN_ROOT row.now) }
     ensures { let stored = stored_form space.now.pages schema.now ROOTS_PAGE image.now.bytes in
-        StoresAs space.now.pages schema.now ROOTS_PAGE (replaced (root_place i) row.now image.now.bytes)
+        StoresAs space.now.pages schema.now ROOTS_PAGE
+        (replaced (root_place i) row.now image.now.bytes)
         (replaced (root_place i) (stored_root space.now.pages row.now) stored) }
 {}
 
-/// A resident image stays so, and keeps its stored form, when further pages get frames.
-pub fn more_frames_store_the_same(
-    image: &PageImage,
-    page: PageNo,
-    schema: &Schema,
-    space: &Space,
-    later: &Space,
-)
-    requires resident { IsResidentPage space.now.pages schema.now page.0 image.now.bytes }
-    requires more { KeepsFrames space.now.pages later.now.pages }
-    ensures { let stored = stored_form space.now.pages schema.now page.0 image.now.bytes in
-        StoresAs later.now.pages schema.now page.0 image.now.bytes stored }
+/// Every image that was resident before further pages got frames stays so, and keeps its stored form. A
+/// client calls it once they have them, and knows it of all images in its cache.
+pub fn more_frames_store_the_same(schema: &Schema, space: &Space)
+    ensures { StoreTheSame space.now.pages schema.now }
+{}
+
+/// A pointer of a live row's cell is one of the page's, so that [`pointer_is_stored`] may be called for it.
+/// The row is the page's row i, counted from 0, and the place counts from the cell's start.
+pub fn row_has_pointer(image: &PageImage, page: PageNo, schema: &Schema, i: u16, row: Row, at: u16)
+    requires objects { IsTrue (holds_objects page.0 image.now.bytes) }
+    requires row { slice_get (rows_of image.now.bytes) i ≡ Some row }
+    requires live { row.live ≡ true }
+    requires pointer { IsOneOf at (pointers_of schema.now row.code) }
+    ensures { IsOneOf (row.offset + at) (page_pointers schema.now page.0 image.now.bytes) }
 {}

@@ -89,7 +89,8 @@ pub fn relocate_in<M: Mapper>(
         Reserves (M.choice mapper.now) space.old space.new wanted result }
     ensures kept { KeepsFrames space.old.pages space.new.pages }
     ensures unchanged { OnErr result (image.new ≡ image.old) }
-    ensures comes { OnOk result (ComesIn space.new.pages schema.now page.0 image.old.bytes image.new.bytes) }
+    ensures comes { OnOk result
+        (ComesIn space.new.pages schema.now page.0 image.old.bytes image.new.bytes) }
 {
     reserve_page(image, page, schema, space, mapper)?;
     frames_are_paired(space);

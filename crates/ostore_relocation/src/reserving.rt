@@ -41,7 +41,8 @@ fn reserve_cell<M: Mapper>(
 ) -> Result<(), SpaceFull>
     requires within { AllByRecursion (λ at. offset + at + 4 ≤ PAGE_SIZE) pointers }
     requires targets { LeadToPages image.now.bytes (map (λ at. offset + at) pointers) }
-    ensures { Reserves (M.choice mapper.now) space.old space.new (targets_of image.now.bytes (map (λ at. offset + at) pointers.entry)) result }
+    ensures { let wanted = targets_of image.now.bytes (map (λ at. offset + at) pointers.entry) in
+        Reserves (M.choice mapper.now) space.old space.new wanted result }
 {
     let mut pointers = pointers;
     while let Some(at) = pointers.next() {
@@ -60,7 +61,8 @@ pub(crate) fn reserve_cells<M: Mapper>(
     requires lawful { IsLawful schema.now }
     requires cells { HasCells schema.now image.now.bytes }
     requires targets { LeadToPages image.now.bytes (cell_pointers schema.now image.now.bytes) }
-    ensures { Reserves (M.choice mapper.now) space.old space.new (targets_of image.now.bytes (cell_pointers schema.now image.now.bytes)) result }
+    ensures { let wanted = targets_of image.now.bytes (cell_pointers schema.now image.now.bytes) in
+        Reserves (M.choice mapper.now) space.old space.new wanted result }
 {
     for i in 0..rows(image) {
         let row = nth_row(image, i);
@@ -82,7 +84,8 @@ pub(crate) fn reserve_roots<M: Mapper>(
     mapper: &M,
 ) -> Result<(), SpaceFull>
     requires targets { LeadToPages image.now.bytes (root_pointers image.now.bytes) }
-    ensures { Reserves (M.choice mapper.now) space.old space.new (targets_of image.now.bytes (root_pointers image.now.bytes)) result }
+    ensures { let wanted = targets_of image.now.bytes (root_pointers image.now.bytes) in
+        Reserves (M.choice mapper.now) space.old space.new wanted result }
 {
     for i in 0..ROOTS {
         if get_u8(image, name_length_place(i)) != 0 {

@@ -32,7 +32,8 @@ pub(crate) fn pointer_place(i: u16) -> u16
 
 /// Changes the pointers of all rows that aren't free into a form.
 pub(crate) fn change_roots(image: &mut PageImage, space: &Space, form: Form)
-    ensures { image.new.bytes ≡ with_pointers (pointer_in form space.now.pages) (root_pointers image.old.bytes) image.old.bytes }
+    ensures { let places = root_pointers image.old.bytes in
+        image.new.bytes ≡ with_pointers (pointer_in form space.now.pages) places image.old.bytes }
 {
     image_is_whole(image);
     for i in 0..ROOTS {

@@ -3,6 +3,9 @@
 ghost use Rattle.std.specs.Prelude.{◌<◌};
 ghost use Rattle.ostore_base.specs.Limits.{most_pages};
 ghost use Rattle.ostore_schema_layout.specs.Lawful.{IsLawful};
+ghost use Rattle.ostore_relocation.specs.Fitness.{IsFit, LeadsToPages};
+ghost use Rattle.ostore_relocation.specs.Forms.{IsResidentPage, stored_form};
+ghost use Rattle.ostore_relocation.specs.Stores.{StoresAs};
 
 use super::*;
 use ostore_address_space::{Frame, High, Low, Mapper, Mixed, Space, SpaceFull};
@@ -198,6 +201,99 @@ fn roots_lead_to_frames(rt: HostRuntime) -> Result<(), Fail> {
     assert!(rt; in_and_out(&image, PageNo(9), &schema, &mut space, &High) == Some(wanted));
     assert_eq!(rt; space.frame_of(PageNo(9)), Some(Frame(7)));
     assert_eq!(rt; space.frame_of(PageNo(12)), None);
+    Ok(())
+}
+
+/// A mapper whose answer is always the same.
+struct Always(u32);
+
+impl Mapper for Always {
+    ghost choice = { λ mapper client page count. mapper.0 };
+
+    fn choose(&self, _client: ClientNo, _page: PageNo, _free_count: u32) -> u32 {
+        self.0
+    }
+}
+
+#[test]
+fn an_answer_past_the_frames_means_the_first_free_one(rt: HostRuntime) -> Result<(), Fail> {
+    let alloc = rt.alloc();
+    let schema = parse_schema(alloc, b"")?;
+    let mut space = Space::new(alloc, ClientNo(0), 3)?;
+    let image = three_roots();
+    let mut wanted = image;
+    // Pages 9, 10 and 11 get frames 1, 2 and 3.
+    wanted.bytes[64..68].copy_from_slice(&[0x20, 0x20, 0, 0]);
+    wanted.bytes[104..108].copy_from_slice(&[0x20, 0x30, 0, 0]);
+    wanted.bytes[4064..4068].copy_from_slice(&[0x2c, 0x20, 0, 0]);
+    assert!(rt; in_and_out(&image, PageNo(9), &schema, &mut space, &Always(99)) == Some(wanted));
+    assert_eq!(rt; space.frame_of(PageNo(9)), Some(Frame(1)));
+    assert_eq!(rt; space.page_at(Frame(3)), Some(PageNo(11)));
+    Ok(())
+}
+
+/// Brings a page in beside one that is resident, as a client does that has one space. That one keeps its
+/// stored form, whatever the answer is.
+fn comes_beside<M: Mapper>(
+    held: &PageImage,
+    own: PageNo,
+    image: &mut PageImage,
+    page: PageNo,
+    schema: &Schema,
+    space: &mut Space,
+    mapper: &M,
+) -> Result<(), SpaceFull>
+    requires page { page.0 < most_pages }
+    requires lawful { IsLawful schema.now }
+    requires fit { IsFit schema.now page.0 image.old.bytes }
+    requires targets { LeadsToPages schema.now page.0 image.old.bytes }
+    requires resident { IsResidentPage space.old.pages schema.now own.0 held.now.bytes }
+    ensures { let stored = stored_form space.old.pages schema.now own.0 held.now.bytes in
+        StoresAs space.new.pages schema.now own.0 held.now.bytes stored }
+{
+    let answer = relocate_in(image, page, schema, space, mapper);
+    more_frames_store_the_same(schema, space);
+    answer
+}
+
+/// Brings two pages in, and tells whether the first goes out as it came in.
+fn first_stays<M: Mapper>(
+    first: &PageImage,
+    own: PageNo,
+    second: &PageImage,
+    schema: &Schema,
+    space: &mut Space,
+    mapper: &M,
+) -> bool
+    requires page { own.0 < most_pages }
+    requires lawful { IsLawful schema.now }
+{
+    if !is_fit(first, own, schema) || !is_fit(second, PageNo(9), schema) {
+        return false;
+    }
+    if !leads_to_pages(first, own, schema) || !leads_to_pages(second, PageNo(9), schema) {
+        return false;
+    }
+    let mut held = *first;
+    let Ok(()) = relocate_in(&mut held, own, schema, space, mapper) else {
+        return false;
+    };
+    let mut roots = *second;
+    let answer = comes_beside(&held, own, &mut roots, PageNo(9), schema, space, mapper);
+    relocate_out(&mut held, own, schema, space);
+    answer.is_ok() && held == *first
+}
+
+#[test]
+fn a_resident_page_keeps_its_stored_form(rt: HostRuntime) -> Result<(), Fail> {
+    let alloc = rt.alloc();
+    let schema = parse_schema(alloc, PARTS)?;
+    let mut space = Space::new(alloc, ClientNo(0), 5)?;
+    let (part, roots) = (a_part(), three_roots());
+    assert!(rt; first_stays(&part, PageNo(10), &roots, &schema, &mut space, &High));
+    // Page 10 has frame 5, page 9 frame 4, and page 11 frame 3.
+    assert_eq!(rt; space.page_at(Frame(5)), Some(PageNo(10)));
+    assert_eq!(rt; space.page_at(Frame(3)), Some(PageNo(11)));
     Ok(())
 }
 
