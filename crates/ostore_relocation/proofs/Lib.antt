@@ -14,3 +14,4 @@ pub mod PointLaws
 pub mod RootRowLaws
 pub mod FitLaws
 pub mod RowPointers
+pub mod RowBytes

@@ -175,7 +175,7 @@ changed_page change schema places bytes has lie =
 
 -- ---- a walk over the rows
 
-row_read : (bytes : List ℕ) (i : ℕ) (row : Row) → i < rows_in bytes → slice_get (rows_of bytes) i ≡ Some row → row_in bytes i ≡ row
+pub row_read : (bytes : List ℕ) (i : ℕ) (row : Row) → i < rows_in bytes → slice_get (rows_of bytes) i ≡ Some row → row_in bytes i ≡ row
 row_read bytes i row below told = same_Some (row_in bytes i) row (sym (slice_get-range (row_in bytes) (rows_in bytes) i below) ∙ told)
 
 lie_within : (low high most : ℕ) (places : List ℕ) (by : ℕ) → LieBetween low places high → by + high ≤ most → AllByRecursion (λ at. by + at + 4 ≤ most) places

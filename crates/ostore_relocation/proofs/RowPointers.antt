@@ -34,7 +34,7 @@ one_of_cells : (schema : Schema) (rows : List Row) (i : ℕ) (row : Row) (at : �
 one_of_cells schema rows i row at told there =
     one_of_all (row_pointers schema) at i rows (subst (IsOneOf at) (sym (rows_split schema rows i row told)) (one_first at (row_pointers schema row) (flat_map (row_pointers schema) (drop (i + 1) rows)) there))
 
-not_nine : (page : ℕ) (bytes : List ℕ) (nine : Bool) → eqb page 9 ≡ nine → holds_objects page bytes ≡ true → eqb page 9 ≡ false
+pub not_nine : (page : ℕ) (bytes : List ℕ) (nine : Bool) → eqb page 9 ≡ nine → holds_objects page bytes ≡ true → eqb page 9 ≡ false
 not_nine page bytes true is holds = absurd (false≢true (sym (nine_no_data page bytes (eqb-true page 9 is)) ∙ holds))
 not_nine page bytes false is holds = is
 

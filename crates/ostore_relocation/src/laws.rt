@@ -2,15 +2,16 @@
 //! calls its function. The stored form stands for what a resident image means, so each law says of a write
 //! to the one what it is to the other.
 
-ghost use Rattle.std.specs.Prelude.{◌≡◌, ◌<◌, ◌+◌, length, true, Some, IsTrue};
-ghost use Rattle.std.specs.List.{slice_get};
+ghost use Rattle.std.specs.Prelude.{◌≡◌, ◌<◌, ◌≤◌, ◌+◌, length, true, Some, IsTrue};
+ghost use Rattle.std.specs.List.{AllByRecursion, slice_get};
 ghost use Rattle.ostore_base.specs.Limits.{most_roots};
 ghost use Rattle.ostore_base.specs.Disk.{replaced};
 ghost use Rattle.ostore_page_tags.specs.Numbers.{number_at, with_number};
 ghost use Rattle.ostore_page_tags.specs.Rows.{rows_of};
-ghost use Rattle.ostore_schema_layout.specs.Cells.{pointers_of};
-ghost use Rattle.ostore_relocation.specs.Places.{IsOneOf, holds_objects, page_pointers, root_place};
+ghost use Rattle.ostore_schema_layout.specs.Cells.{code_size, pointers_of};
+ghost use Rattle.ostore_relocation.specs.Places.{IsBeside, IsOneOf, holds_objects, page_pointers, root_place};
 ghost use Rattle.ostore_relocation.specs.Pointers.{stored_pointer};
+ghost use Rattle.ostore_relocation.specs.Fitness.{HasCells};
 ghost use Rattle.ostore_relocation.specs.Forms.{IsResidentPage, stored_form};
 ghost use Rattle.ostore_relocation.specs.Stores.{LeadsToFrame, PutsBeside, StoreTheSame, StoresAs, stored_root};
 
@@ -84,4 +85,26 @@ pub fn row_has_pointer(image: &PageImage, page: PageNo, schema: &Schema, i: u16,
     requires live { row.live ≡ true }
     requires pointer { IsOneOf at (pointers_of schema.now row.code) }
     ensures { IsOneOf (row.offset + at) (page_pointers schema.now page.0 image.now.bytes) }
+{}
+
+/// Bytes that lie in a live row's cell beside its own pointers lie beside all pointers of the page, as
+/// [`bytes_are_stored`] asks. There are `count` of them, from a place on that counts from the cell's start.
+pub fn row_bytes_are_beside(
+    image: &PageImage,
+    page: PageNo,
+    schema: &Schema,
+    i: u16,
+    row: Row,
+    at: u16,
+    count: u16,
+)
+    requires objects { IsTrue (holds_objects page.0 image.now.bytes) }
+    requires cells { HasCells schema.now image.now.bytes }
+    requires there { i < length (rows_of image.now.bytes) }
+    requires row { slice_get (rows_of image.now.bytes) i ≡ Some row }
+    requires live { row.live ≡ true }
+    requires within { at + count ≤ code_size schema.now row.code }
+    requires beside { AllByRecursion (IsBeside at count) (pointers_of schema.now row.code) }
+    ensures { let places = page_pointers schema.now page.0 image.now.bytes in
+        AllByRecursion (IsBeside (row.offset + at) count) places }
 {}
