@@ -6,3 +6,5 @@ pub mod LineReaders
 pub mod BareWords
 pub mod PrintedLines
 pub mod PlaceLaws
+pub mod LineWordLaws
+pub mod QuotedLaws

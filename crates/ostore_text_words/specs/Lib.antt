@@ -2,5 +2,7 @@
 pub mod Words
 pub mod Lines
 pub mod Seen
+pub mod LineWords
+pub mod Gives
 -- What only ties private code.
 pub mod inside

@@ -3,7 +3,7 @@
 --   A word that begins with `"` has the spaces up to its closing quote.
 --   A line without words is passed over, and so is a comment, whose first word begins with `#`.
 --   A control byte is one below 32. A word that holds one can't stand, and its place is that byte.
-use Rattle.std.specs.Prelude.{ℕ, ◌+◌, ◌-◌, zero, suc, Bool, false, ◌&&◌, not, ◌==◌, nat_lt, nat_le, if◌then◌else◌, List, [], ◌∷◌, ◌++◌, length, map, filter, flat_map, take, codes, Option, Some, None}
+use Rattle.std.specs.Prelude.{ℕ, ◌+◌, ◌-◌, zero, suc, Bool, true, false, ◌&&◌, not, ◌==◌, nat_lt, nat_le, if◌then◌else◌, List, [], ◌∷◌, ◌++◌, length, map, filter, flat_map, take, drop, codes, Option, Some, None}
 use Rattle.std.specs.List.{slice_split, list_all, position_or_len, find}
 use Rattle.std.specs.Option.{option_map}
 use Rattle.std.specs.Str.{bytes_eq, is_utf8, IsUtf8, IsValidUpTo}
@@ -144,6 +144,36 @@ bytes_from at (line ∷ others) = record { at = at; bytes = line } ∷ bytes_fro
 -- all lines of a text
 unfoldable pub line_bytes : List ℕ → List PlacedBytes
 line_bytes text = bytes_from 0 (slice_split (λ byte. byte == 10) text)
+
+-- the lines from a place on, at which a line begins; none where the place is behind the text
+unfoldable pub bytes_on : ℕ → List ℕ → List PlacedBytes
+bytes_on at text = if nat_le at (length text) then bytes_from at (slice_split (λ byte. byte == 10) (drop at text)) else []
+
+-- of these lines, those that aren't passed over
+abbrev pub worded : List PlacedBytes → List PlacedLine
+worded lines = filter has_words (map (λ line. line_of line.at line.bytes) lines)
+
+-- the lines from a place on that aren't passed over, with the places that they have in the whole text
+abbrev pub lines_on : ℕ → List ℕ → List PlacedLine
+lines_on at text = worded (bytes_on at text)
+
+-- the lines that a reader has before it, the next one first, and where the text ends
+pub record LinesAhead : Type 0 where
+  pub lines : List PlacedLine
+  pub end : ℕ
+
+-- those of a text from a place on
+abbrev pub ahead_from : ℕ → List ℕ → LinesAhead
+ahead_from at text = record { lines = lines_on at text; end = length text }
+
+-- whether a line is left
+abbrev pub has_line : List PlacedLine → Bool
+has_line [] = false
+has_line (line ∷ lines) = true
+
+-- those behind the next line
+abbrev pub behind_line : LinesAhead → LinesAhead
+behind_line ahead = record { lines = drop 1 ahead.lines; end = ahead.end }
 
 -- the line's only word is this one, wherever the line stands
 abbrev pub is_parting : List ℕ → PlacedBytes → Bool

@@ -1,10 +1,15 @@
 -- Single words of the texts: identifiers, numbers in their one form, words of two names, and quoted texts.
-use Rattle.std.specs.Prelude.{ℕ, ◌^◌, Bool, false, ◌&&◌, ◌||◌, not, List, [], ◌∷◌, ◌++◌, length, codes, Option, Some, None, nat_lt, nat_le, ◌==◌, if◌then◌else◌, ℤ, pos, negsuc, decimal}
+use Rattle.std.specs.Prelude.{ℕ, ◌^◌, Bool, true, false, ◌&&◌, ◌||◌, not, List, [], ◌∷◌, ◌++◌, length, take, drop, ◌-◌, codes, Option, Some, None, nat_lt, nat_le, ◌==◌, if◌then◌else◌, ℤ, pos, negsuc, decimal}
 use Rattle.std.specs.Char.{is_ascii_alphabetic, is_ascii_alphanumeric}
 use Rattle.std.specs.Fmt.{signed_decimal}
 use Rattle.std.specs.List.{flat_map, list_all, list_any}
 use Rattle.std.specs.Str.{bytes_eq}
 use Rattle.std.specs.Str.Parse.{digits_value, signed_digits_value}
+use Rattle.ostore_base.specs.Limits.{most_segments}
+
+-- the greatest serial of an object
+abbrev pub greatest_serial : ℕ
+greatest_serial = 4294967295
 
 -- ---- identifiers
 
@@ -69,6 +74,16 @@ int_at word = let n = signed_digits_value 10 word in if is_int64 n && bytes_eq (
 unfoldable pub count_at : ℕ → ℕ → List ℕ → Option ℕ
 count_at least most word = let n = digits_value 10 word in if nat_le least n && nat_le n most && bytes_eq (decimal n) word then Some n else None
 
+-- ---- names of objects
+
+-- the segment and the serial of `SEG.SERIAL`
+unfoldable pub name_at : List ℕ → Option (ℕ × ℕ)
+name_at word = do
+  parts ← around_byte 46 word
+  segment ← count_at 1 most_segments parts.0
+  serial ← count_at 1 greatest_serial parts.1
+  Some (segment, serial)
+
 -- ---- quoted texts
 
 -- a quote and a backslash have a backslash before them
@@ -78,3 +93,29 @@ escaped byte = (if byte == 34 || byte == 92 then codes "\\" else []) ++ byte ∷
 -- a text between quotes
 abbrev pub quoted : List ℕ → List ℕ
 quoted text = codes "\"" ++ flat_map escaped text ++ codes "\""
+
+-- the bytes without the backslashes before others; `taken` says that one stood before them
+abbrev pub unescaped : Bool → List ℕ → List ℕ
+unescaped taken [] = []
+unescaped taken (byte ∷ others) = if not taken && byte == 92 then unescaped true others else byte ∷ unescaped false others
+
+-- what stands between the first byte of a word and its last
+abbrev pub between : List ℕ → List ℕ
+between word = take (length word - 2) (drop 1 word)
+
+-- the text that the word spells in the one form of a quoted text, which holds no control byte
+unfoldable pub quoted_at : List ℕ → Option (List ℕ)
+quoted_at word = let text = unescaped false (between word) in if list_all (nat_le 32) word && bytes_eq (quoted text) word then Some text else None
+
+-- ---- words of any kind
+
+abbrev pub begins_quoted : List ℕ → Bool
+begins_quoted [] = false
+begins_quoted (byte ∷ others) = byte == 34
+
+abbrev pub is_quoted : List ℕ → Bool
+is_quoted word = bytes_eq (quoted (unescaped false (between word))) word
+
+-- the word may stand somewhere: it holds no control byte, and where it begins with a quote it is a quoted text
+unfoldable pub may_stand : List ℕ → Bool
+may_stand word = list_all (nat_le 32) word && (not (begins_quoted word) || is_quoted word)

@@ -1,1 +1,2 @@
 pub mod LineWalk
+pub mod LineReader

@@ -2,14 +2,18 @@
 //! numbers in their one form. Every language of the database is spelled in them.
 #![tactic(auto)]
 
+mod fault;
 mod lines;
 mod names;
 mod numbers;
+mod quoted;
 mod utf8;
 
-pub use lines::{Line, Word, find_parting, read_lines};
-pub use names::{is_identifier, read_dotted};
+pub use fault::TextFault;
+pub use lines::{Line, LineReader, Word, find_parting, read_lines};
+pub use names::{is_identifier, read_dotted, read_name};
 pub use numbers::{read_count, read_int};
+pub use quoted::push_quoted;
 pub use utf8::utf8_fault;
 
 #[cfg(test)]

@@ -1,7 +1,9 @@
 //! The lines of a text, and their words.
 
+mod reader;
+mod readers;
 mod walk;
-mod words;
+pub(crate) mod words;
 
 ghost use Rattle.std.specs.Prelude.{◌≡◌, ◌+◌, ◌^◌, ◌<◌, ◌++◌, length, map, option_map, IfOk, OnOk};
 ghost use Rattle.std.specs.List.{find};
@@ -9,6 +11,7 @@ ghost use Rattle.ostore_text_words.specs.Lines.{is_comment, is_parting, line_byt
 ghost use Rattle.ostore_text_words.specs.Seen.{seen_word, seen_lines};
 ghost use Rattle.ostore_text_words.specs.inside.LineWalk.{kept_line, seen_bytes};
 
+pub use self::reader::LineReader;
 use self::walk::{LineBytes, LineWalk};
 use self::words::{is_only, is_plain, judged_at, words_of_line};
 use ostore_base::{ListOf, OutOfMemory};

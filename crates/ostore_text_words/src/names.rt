@@ -2,7 +2,9 @@
 
 ghost use Rattle.std.specs.Prelude.{◌≡◌, ◌==◌, option_map, position};
 ghost use Rattle.std.specs.List.{list_all};
-ghost use Rattle.ostore_text_words.specs.Words.{is_identifier, is_reserved, is_name_byte, begins_as_name, around_byte, dotted_at};
+ghost use Rattle.ostore_text_words.specs.Words.{is_identifier, is_reserved, is_name_byte, begins_as_name, around_byte, dotted_at, name_at};
+
+use crate::numbers::read_count;
 
 /// The words of the languages, which name nothing.
 const RESERVED: [&[u8]; 10] = [
@@ -70,4 +72,21 @@ pub fn read_dotted(word: &[u8]) -> Option<(&[u8], &[u8])>
     } else {
         None
     }
+}
+
+/// The greatest number of a segment. The first is 1.
+const LAST_SEGMENT: u64 = 255;
+
+/// The greatest serial of an object. The first is 1.
+const LAST_SERIAL: u64 = 4_294_967_295;
+
+/// The segment and the serial of `SEG.SERIAL`, each a count from 1.
+#[tactic(auto, unfolding(crate::specs::Words::name_at))]
+pub fn read_name(word: &[u8]) -> Option<(u8, u32)>
+    ensures { result ≡ name_at word.now }
+{
+    let (segment, serial) = around_dot(word)?;
+    let segment = read_count(segment, 1, LAST_SEGMENT)?;
+    let serial = read_count(serial, 1, LAST_SERIAL)?;
+    Some((segment as u8, serial as u32))
 }

@@ -1,6 +1,7 @@
 //! Texts with the words and places that they have, and words with what they spell.
 
 use super::*;
+use ostore_base::Text;
 use std::fmt::Write;
 use std::process::Abort;
 use std::test::Fail;
@@ -90,6 +91,120 @@ fn many_lines_and_many_words(rt: HostRuntime) -> Result<(), Fail> {
     assert_eq!(rt; words.len(), 1000);
     assert_eq!(rt; words[999].at, 34890 + 2 * 999);
     Ok(())
+}
+
+#[test]
+fn a_reader_from_a_place_on(rt: HostRuntime) -> Result<(), Fail> {
+    let text = b"type A\njob\n\n# none\nclient a\n  begin\n";
+    let mut lines = LineReader::new(rt.alloc(), text, 11)?;
+    let client = lines.line()?;
+    assert_eq!(rt; (client.word(0)?.at, client.end), (19, 27));
+    lines.advance()?;
+    let begin = lines.line()?;
+    assert_eq!(rt; (begin.word(0)?.at, begin.end), (30, 35));
+    lines.advance()?;
+    assert!(rt; !lines.has_line() && lines.next_line().is_none());
+    assert!(rt; matches!(lines.line(), Err(TextFault::Syntax { at: 36 })));
+    Ok(())
+}
+
+#[test]
+fn three_million_bytes_line_by_line(rt: HostRuntime) -> Result<(), Fail> {
+    let mut text = Vec::new(rt.alloc());
+    for _ in 0..300_000u32 {
+        text.extend_from_slice(b"get $p.id\n")?;
+    }
+    let mut lines = LineReader::new(rt.alloc(), &text, 0)?;
+    for _ in 0..299_999u32 {
+        lines.line()?.ended(2)?;
+        lines.advance()?;
+    }
+    assert_eq!(rt; lines.line()?.word(1)?.at, 2_999_994);
+    lines.advance()?;
+    assert!(rt; !lines.has_line());
+    Ok(())
+}
+
+#[test]
+fn what_words_say(rt: HostRuntime) -> Result<(), Fail> {
+    let text = br#" part 40 -7 "a \"b\\" 255.4294967295  # "#;
+    let lines = LineReader::new(rt.alloc(), text, 0)?;
+    let line = lines.line()?;
+    assert_eq!(rt; line.identifier(0)?.at, 1);
+    assert_eq!(rt; line.keyword(b"part", 0)?.at, 1);
+    assert_eq!(rt; line.count(1, 1, 40)?, 40);
+    assert_eq!(rt; line.int(2)?, -7);
+    assert!(rt; line.quoted(rt.alloc(), 3)?.bytes() == br#"a "b\"#.as_slice());
+    assert_eq!(rt; line.name(4)?, (255, 4_294_967_295));
+    assert_eq!(rt; line.any(rt.alloc(), 5)?.at, 38);
+    line.ended(6)?;
+    Ok(())
+}
+
+#[test]
+fn where_words_can_not_stand(rt: HostRuntime) -> Result<(), Fail> {
+    let text = b"part 40 \"a\" 1.2  \n";
+    let lines = LineReader::new(rt.alloc(), text, 0)?;
+    let line = lines.line()?;
+    for (fault, at) in [
+        (line.word(4).err(), 17),
+        (line.identifier(1).err(), 5),
+        (line.keyword(b"job", 0).err(), 0),
+        (line.count(1, 1, 39).err(), 5),
+        (line.int(0).err(), 0),
+        (line.quoted(rt.alloc(), 3).err(), 12),
+        (line.name(2).err(), 8),
+        (line.any(rt.alloc(), 4).err(), 17),
+        (line.ended(3).err(), 12),
+    ] {
+        assert_eq!(rt; fault, Some(TextFault::Syntax { at }));
+    }
+    Ok(())
+}
+
+#[test]
+fn quoted_texts(rt: HostRuntime) -> Result<(), Fail> {
+    for (word, text) in [
+        (br#""""#.as_slice(), b"".as_slice()),
+        (br#""a b""#.as_slice(), b"a b".as_slice()),
+        (br#""\"\\""#.as_slice(), br#""\"#.as_slice()),
+    ] {
+        let lines = LineReader::new(rt.alloc(), word, 0)?;
+        assert!(rt; lines.line()?.quoted(rt.alloc(), 0)?.bytes() == text);
+        let mut printed = Text::new(rt.alloc());
+        push_quoted(&mut printed, text)?;
+        assert!(rt; printed.bytes() == word);
+    }
+    for (word, at) in [
+        (br#"""#.as_slice(), 0),
+        (br#""a"#.as_slice(), 0),
+        (br#""a\""#.as_slice(), 0),
+        (br#""a\n""#.as_slice(), 0),
+        (br#""a"b"#.as_slice(), 0),
+        (br#"a"b""#.as_slice(), 0),
+        (b"\"a\x1f\"".as_slice(), 2),
+    ] {
+        let lines = LineReader::new(rt.alloc(), word, 0)?;
+        let fault = lines.line()?.quoted(rt.alloc(), 0).err();
+        assert_eq!(rt; fault, Some(TextFault::Syntax { at }));
+    }
+    Ok(())
+}
+
+#[test]
+fn names_of_objects(rt: HostRuntime) {
+    assert_eq!(rt; read_name(b"1.1"), Some((1, 1)));
+    for word in [
+        b"0.1".as_slice(),
+        b"256.1".as_slice(),
+        b"1.0".as_slice(),
+        b"1.4294967296".as_slice(),
+        b"01.1".as_slice(),
+        b"1".as_slice(),
+        b"1.1.1".as_slice(),
+    ] {
+        assert_eq!(rt; read_name(word), None);
+    }
 }
 
 #[test]

@@ -3,7 +3,7 @@
 ghost use Rattle.std.specs.Prelude.{◌≡◌, ◌≤◌, ◌==◌, length};
 ghost use Rattle.std.specs.List.{position, position_or_len};
 ghost use Rattle.std.specs.Iterator.{YieldsFirstBy, item_count};
-ghost use Rattle.ostore_text_words.specs.Lines.{line_bytes};
+ghost use Rattle.ostore_text_words.specs.Lines.{bytes_on, line_bytes};
 ghost use Rattle.ostore_text_words.specs.inside.LineWalk.{lines_left, seen_bytes};
 
 /// A line as it stands, words or none: where it begins, and its bytes without byte 10.
@@ -14,7 +14,7 @@ pub(super) struct LineBytes<'a> {
 }
 
 /// A walk over the lines of a text.
-#[derive(Drop)]
+#[derive(Clone, Copy)]
 pub(super) struct LineWalk<'a> {
     text: &'a [u8],
     /// Where the next line begins. A place behind the text's end begins none.
@@ -26,6 +26,20 @@ impl<'a> LineWalk<'a> {
         ensures { lines_left result ≡ line_bytes text.now }
     {
         LineWalk { text, next_at: 0 }
+    }
+
+    /// A walk from a place on, at which a line begins.
+    pub(super) fn from(text: &'a [u8], at: usize) -> LineWalk<'a>
+        ensures { lines_left result ≡ bytes_on at text.now }
+    {
+        LineWalk { text, next_at: at }
+    }
+
+    /// The text that it walks over.
+    pub(super) fn text(&self) -> &'a [u8]
+        ensures { result.now ≡ self.now.text.now }
+    {
+        self.text
     }
 }
 

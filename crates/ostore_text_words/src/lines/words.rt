@@ -65,7 +65,7 @@ fn word_length(bytes: &[u8]) -> usize
 }
 
 /// Whether there is no control byte.
-pub(super) fn is_plain(bytes: &[u8]) -> bool
+pub(crate) fn is_plain(bytes: &[u8]) -> bool
     ensures { result ≡ list_all (nat_le 32) bytes.now }
 {
     bytes.iter().all(|byte| *byte >= b' ')
