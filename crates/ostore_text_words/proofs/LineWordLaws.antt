@@ -5,7 +5,7 @@ use Rattle.std.proofs.lemmas.Option.{same_Some}
 use Rattle.std.proofs.lemmas.Slice.Eq.{bytes_eq-Decides}
 use Rattle.ostore_text_words.specs.Words.{is_identifier}
 use Rattle.ostore_text_words.specs.Lines.{PlacedWord, PlacedLine}
-use Rattle.ostore_text_words.specs.LineWords.{◌>>=◌, or_at, word_at, says_at, identifier_at, keyword_at, none_of, ended_at, if_ended}
+use Rattle.ostore_text_words.specs.LineWords.{◌>>=◌, or_at, word_at, says_at, identifier_at, keyword_at, none_of, if_ended}
 
 -- ---- steps
 

@@ -1,4 +1,4 @@
-use Rattle.std.proofs.Common.{◌+◌, length, refl, arith}
+use Rattle.std.proofs.Common.{refl, arith}
 use Rattle.std.proofs.lemmas.Grind.{common_steps}
 use Rattle.ostore_text_words.specs.inside.LineWalk.{seen_bytes}
 use Rattle.ostore_text_words.proofs.LineReaders.{on_within, next_within}
