@@ -1,3 +1,6 @@
 pub mod FaultLemmas
 pub mod StreamLemmas
 pub mod DiskLemmas
+pub mod ImageLemmas
+pub mod MomentLemmas
+pub mod RecordLemmas

@@ -16,10 +16,10 @@ mod text;
 
 pub use copied::Copied;
 pub use list::ListOf;
-pub use memory::{MemDisk, MemSink, MemSource};
+pub use memory::{DiskCall, MemDisk, MemSink, MemSource, Remains};
 pub use numbers::{CLIENTS, ClientNo, PageNo, PageNos};
 pub use out_of_memory::OutOfMemory;
-pub use outside::{Disk, Failed, LONGEST_DISK, Sink, Source};
+pub use outside::{Disk, Failed, LONGEST_DISK, Sink, Source, write_gated, write_synced};
 pub use page::{PAGE_SIZE, PageImage};
 pub use page_list::{MAX_PAGES, PageList};
 pub use standard::{FileDisk, StdSink, StdSource};

@@ -4,10 +4,12 @@
 mod disk;
 mod sink;
 mod source;
+mod steps;
 
 pub use disk::{Disk, LONGEST_DISK};
 pub use sink::Sink;
 pub use source::Source;
+pub use steps::{write_gated, write_synced};
 use thiserror::Error;
 
 /// A call on the outside failed. The count of faults of its object rose.

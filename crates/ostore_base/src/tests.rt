@@ -198,6 +198,61 @@ fn a_disk_is_read(rt: HostRuntime) -> Result<(), Fail> {
 }
 
 #[test]
+fn a_crash_leaves_what_no_sync_made_sure_of(rt: HostRuntime) -> Result<(), Fail> {
+    let alloc = rt.alloc();
+    let mut disk = MemDisk::new([1, 2, 3].to_vec(alloc)?, Vec::new(alloc));
+    assert_eq!(rt; disk.write(1, &[8, 9]), Ok(()));
+    // What remains of the write, and what a crash then leaves.
+    let cases: [(Remains, &[u8]); 4] = [
+        (Remains::Whole, &[1, 8, 9]),
+        (Remains::Nothing, &[1, 2, 3]),
+        (Remains::FirstHalf, &[1, 8, 3]),
+        (Remains::Filled(7), &[1, 7, 7, 7, 7, 7, 7, 7]),
+    ];
+    if disk.moment() == 1 {
+        for (remains, left) in cases {
+            let image = disk.crash_image(1, remains, Remains::Whole)?;
+            assert_eq!(rt; image.items(), left);
+        }
+        let before = disk.crash_image(0, Remains::Nothing, Remains::Nothing)?;
+        assert_eq!(rt; before.items(), [1, 2, 3].as_slice());
+    }
+    assert_eq!(rt; disk.sync(), Ok(()));
+    assert_eq!(rt; disk.moment(), 2);
+    let images = disk.crash_images(2, 1)?;
+    for image in images.items() {
+        assert_eq!(rt; image.items(), [1, 8, 9].as_slice());
+    }
+    assert_eq!(rt; disk.crash_images(0, 1)?.len(), 30);
+    Ok(())
+}
+
+#[test]
+fn a_gate_opens_last(rt: HostRuntime) -> Result<(), Fail> {
+    let alloc = rt.alloc();
+    // Stopped at each of the four calls, and at none: whether a crash may leave the gate open.
+    for (stop, may_open) in [(1, false), (2, false), (3, true), (4, true), (5, true)] {
+        let mut disk = MemDisk::new([9, 0].to_vec(alloc)?, Vec::new(alloc));
+        disk.stop_at(stop);
+        let done = write_gated(&mut disk, 1, &[7, 0]);
+        assert_eq!(rt; done.is_ok(), stop == 5);
+        let mut opened = false;
+        let images = disk.crash_images(0, 1)?;
+        for image in images.items() {
+            let items = image.items();
+            assert!(rt; items.len() >= 2 && items[0] == 9);
+            if items[1] == 1 {
+                assert!(rt; items.len() >= 4 && items[2..4] == [7, 0]);
+                opened = true;
+            }
+        }
+        assert_eq!(rt; opened, may_open);
+        assert_eq!(rt; disk.faults(), if stop == 5 { 0 } else { 1 });
+    }
+    Ok(())
+}
+
+#[test]
 fn a_reader_is_a_source(rt: HostRuntime) {
     let bytes = [1u8, 2, 3, 4, 5];
     let mut source = StdSource::new(bytes.as_slice());

@@ -1,20 +1,21 @@
 //! Bytes in memory, and which calls on them fail.
 
-ghost use Rattle.std.specs.Prelude.{◌≡◌, ◌+◌, ◌<◌, ◌≤◌, ◌++◌, ◌↔◌, length, IsTrue, IsErr, OnOk, OnErr, Contains};
+ghost use Rattle.std.specs.Prelude.{◌≡◌, ◌⊎◌, ◌+◌, ◌<◌, ◌≤◌, ◌++◌, ◌↔◌, length, IsTrue, IsErr, OnOk, OnErr, Contains, IsSomeAnd};
 ghost use Rattle.ostore_base.specs.Faults.{HasCause, CountsFault};
 ghost use Rattle.ostore_base.specs.Disk.{replaced};
-ghost use Rattle.ostore_base.specs.Memory.{MemoryState, fresh, holding, after_fault, IsNextNamed, CountsCall};
+ghost use Rattle.ostore_base.specs.Memory.{MemoryState, fresh, holding, after_fault, stopping_at, IsNextNamed, CountsCall};
 
 use crate::fault_count::FaultCount;
 use crate::outside::Failed;
 use std::marker::Model;
 
-/// Bytes, the calls that fail, by their numbers from 1 on, and the counts of calls and of faults.
-/// Both counts stay at the end of 64 bits.
+/// Bytes, the calls that fail, by their numbers from 1 on, the number from which on all fail, and the
+/// counts of calls and of faults. Both counts stay at the end of 64 bits.
 #[derive(Debug, Drop)]
 pub(super) struct Held {
     bytes: Vec<u8>,
     fails: Vec<u64>,
+    stop: Option<u64>,
     calls: u64,
     faults: FaultCount,
 }
@@ -27,6 +28,7 @@ impl Model for Held {
     ghost view = { λ h. record {
       bytes = h.bytes.items;
       fails = h.fails.items;
+      stop = h.stop;
       calls = h.calls;
       faults = h.faults;
     } };
@@ -40,6 +42,7 @@ impl Held {
         Held {
             bytes,
             fails,
+            stop: None,
             calls: 0,
             faults: FaultCount::zero(),
         }
@@ -66,6 +69,13 @@ impl Held {
         self.faults.get()
     }
 
+    /// Makes this call and all later ones fail.
+    pub fn stop_at(&mut self, call: u64)
+        ensures { self.new ≡ stopping_at call self.old }
+    {
+        self.stop = Some(call);
+    }
+
     /// Counts a call, and fails it where it is one of those that fail.
     pub fn begin_call(&mut self) -> Result<(), Failed>
         ensures named { IsErr result ↔ IsNextNamed self.old }
@@ -74,7 +84,7 @@ impl Held {
         ensures fault { CountsFault self.old.faults self.new.faults result }
         ensures cause { HasCause self.old.faults self.new.faults result }
     {
-        let failing = is_next_named(&self.fails, self.calls);
+        let failing = is_failing(&self.fails, self.stop, self.calls);
         self.calls = self.calls.saturating_add(1);
         if failing {
             return Err(self.faults.rise());
@@ -119,7 +129,15 @@ impl Held {
     }
 }
 
-/// Whether the call after so many calls is one of those that fail.
+/// Whether the call after so many calls fails.
+fn is_failing(fails: &[u64], stop: Option<u64>, calls: u64) -> bool
+    ensures { IsTrue result ↔ Contains fails.now (calls + 1)
+        ⊎ IsSomeAnd stop (λ call. call ≤ calls + 1) }
+{
+    is_next_named(fails, calls) || is_past(stop, calls)
+}
+
+/// Whether the call after so many calls is one of those that are named.
 fn is_next_named(fails: &[u64], calls: u64) -> bool
     ensures { IsTrue result ↔ Contains fails.now (calls + 1) }
 {
@@ -127,4 +145,14 @@ fn is_next_named(fails: &[u64], calls: u64) -> bool
         return false;
     }
     fails.contains(&(calls + 1))
+}
+
+/// Whether the call after so many calls is at the stop or behind it.
+fn is_past(stop: Option<u64>, calls: u64) -> bool
+    ensures { IsTrue result ↔ IsSomeAnd stop (λ call. call ≤ calls + 1) }
+{
+    match stop {
+        Some(call) => call.saturating_sub(1) <= calls,
+        None => false,
+    }
 }

@@ -1,4 +1,4 @@
-ghost use Rattle.std.specs.Prelude.{◌≡◌, ◌+◌, ◌^◌, ◌≤◌, length, None, IfOk, OnOk};
+ghost use Rattle.std.specs.Prelude.{◌≡◌, ◌+◌, ◌^◌, ◌≤◌, length, None, IfOk, OnOk, ⊤};
 ghost use Rattle.ostore_base.specs.Limits.{longest_disk};
 ghost use Rattle.ostore_base.specs.Faults.{HasCause, CountsFault};
 
@@ -54,8 +54,18 @@ impl Disk for FileDisk {
 
     ghost faults = { λ d. d };
 
-    // It tells no bytes, so this says nothing of them.
-    ghost unsure = { λ _ _. ⊥ };
+    // It tells nothing of bytes: a crash may leave any.
+    ghost may_leave = { λ _ _. ⊤ };
+
+    ghost left_since = { λ _ _ _. ⊤ };
+
+    ghost moment = { λ _. 0 };
+
+    ghost reads_image = { λ _. tt };
+
+    ghost counts_now = { λ _ _ _ _ _. tt };
+
+    ghost only_now = { λ _ _ _. tt };
 
     fn length(&mut self) -> Result<u64, Failed>
         ensures bound { IfOk result (λ n. n ≤ longest_disk) }

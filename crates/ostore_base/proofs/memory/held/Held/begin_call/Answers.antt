@@ -3,4 +3,4 @@ use Rattle.ostore_base.proofs.memory.held.Held.begin_call.Goals as goal
 
 pub returns-then-failing-clause-named : goal.returns-then-failing-clause-named
 returns-then-failing-clause-named c =
-    (λ _. rw (← c.self.view_is) (rw (← c.deref.ensures.value) (c.is_next_named-failing.ensures.0 c.if-failing.true)), λ _. refl)
+    (λ _. rw (← c.self.view_is) (rw (← c.deref.ensures.value) (c.is_failing-failing.ensures.0 c.if-failing.true)), λ _. refl)

@@ -1,0 +1,7 @@
+-- The images so far are ones that a crash might have left.
+use Rattle.std.proofs.Common.{All}
+use Rattle.ostore_base.specs.MemoryDisk.{LeftSince}
+use Rattle.ostore_base.proofs.memory.crashes.images_since.Given as goal
+
+abbrev pub invariant-loop-moment : goal.invariant-loop-moment
+invariant-loop-moment l = All (LeftSince l.first l.past.items l.since) l.images
