@@ -15,3 +15,4 @@ pub mod RootRowLaws
 pub mod FitLaws
 pub mod RowPointers
 pub mod RowBytes
+pub mod CellBytes

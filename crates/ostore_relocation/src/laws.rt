@@ -87,24 +87,33 @@ pub fn row_has_pointer(image: &PageImage, page: PageNo, schema: &Schema, i: u16,
     ensures { IsOneOf (row.offset + at) (page_pointers schema.now page.0 image.now.bytes) }
 {}
 
-/// Bytes that lie in a live row's cell beside its own pointers lie beside all pointers of the page, as
-/// [`bytes_are_stored`] asks. There are `count` of them, from a place on that counts from the cell's start.
-pub fn row_bytes_are_beside(
+/// Bytes that are put into a live row's cell of a resident page of objects, beside the cell's pointers, are
+/// put there in the page's stored form. They stand at a place that counts from the cell's start. The page's
+/// cells are then still the schema's.
+pub fn cell_bytes_are_stored(
     image: &PageImage,
     page: PageNo,
     schema: &Schema,
+    space: &Space,
     i: u16,
     row: Row,
     at: u16,
-    count: u16,
+    bytes: &[u8],
 )
+    requires resident { IsResidentPage space.now.pages schema.now page.0 image.now.bytes }
     requires objects { IsTrue (holds_objects page.0 image.now.bytes) }
     requires cells { HasCells schema.now image.now.bytes }
     requires there { i < length (rows_of image.now.bytes) }
     requires row { slice_get (rows_of image.now.bytes) i ≡ Some row }
     requires live { row.live ≡ true }
-    requires within { at + count ≤ code_size schema.now row.code }
-    requires beside { AllByRecursion (IsBeside at count) (pointers_of schema.now row.code) }
-    ensures { let places = page_pointers schema.now page.0 image.now.bytes in
-        AllByRecursion (IsBeside (row.offset + at) count) places }
-{}
+    requires within { at + length bytes.now ≤ code_size schema.now row.code }
+    requires beside { let count = length bytes.now in
+        AllByRecursion (IsBeside at count) (pointers_of schema.now row.code) }
+    ensures stored { let stored = stored_form space.now.pages schema.now page.0 image.now.bytes in
+        StoresAs space.now.pages schema.now page.0
+        (replaced (row.offset + at) bytes.now image.now.bytes)
+        (replaced (row.offset + at) bytes.now stored) }
+    ensures cells { HasCells schema.now (replaced (row.offset + at) bytes.now image.now.bytes) }
+{
+    frames_are_paired(space);
+}

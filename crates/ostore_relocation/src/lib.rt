@@ -12,8 +12,8 @@ mod roots;
 
 pub use fitness::{has_cells, is_fit, leads_to_pages};
 pub use laws::{
-    bytes_are_stored, more_frames_store_the_same, pointer_is_stored, root_row_is_stored,
-    row_bytes_are_beside, row_has_pointer,
+    bytes_are_stored, cell_bytes_are_stored, more_frames_store_the_same, pointer_is_stored,
+    root_row_is_stored, row_has_pointer,
 };
 pub use relocate::{relocate_in, relocate_out};
 
