@@ -127,6 +127,10 @@ type_pointers members = flat_map pointers_of_place (places_from 0 members)
 abbrev pub pointers_of : Schema → ℕ → List ℕ
 pointers_of schema code = if nat_le 240 code then chunk_pointers code else type_pointers (members_of schema code)
 
+-- pointers at these places, 4 bytes each, lie in a cell of the code
+abbrev pub AreInCell : Schema → ℕ → List ℕ → Type 0
+AreInCell schema code places = AllByRecursion (λ place. place + 4 ≤ code_size schema code) places
+
 -- the code of a type of the schema, or of a chunk or descriptor
 abbrev pub HasCode : Schema → ℕ → Type 0
 HasCode schema code = IsType schema code ⊎ ((240 ≤ code) × (code ≤ 246))

@@ -4,8 +4,9 @@
 use Rattle.std.specs.Prelude.{ℕ, Bool, false, if◌then◌else◌, List, [], ◌∷◌, codes, Option, Some, None, Result, Ok, Err}
 use Rattle.std.specs.List.{slice_get}
 use Rattle.std.specs.Str.{bytes_eq}
-use Rattle.ostore_text_words.specs.Words.{is_identifier, count_at, dotted_at}
+use Rattle.ostore_text_words.specs.Words.{count_at, dotted_at}
 use Rattle.ostore_text_words.specs.Lines.{PlacedWord, PlacedLine}
+use Rattle.ostore_text_words.specs.LineWords.{◌>>=◌, or_at, word_at, says_at, identifier_at, keyword_at, if_ended}
 use Rattle.ostore_schema_layout.specs.declared.declarations.NameAt.{NameAt}
 use Rattle.ostore_schema_layout.specs.declared.declarations.TypeDeclaration.{TypeDeclaration}
 use Rattle.ostore_schema_layout.specs.declared.declarations.MemberDeclaration.{MemberDeclaration}
@@ -14,53 +15,21 @@ use Rattle.ostore_schema_layout.specs.declared.declarations.KindDeclaration.TheV
 use Rattle.ostore_schema_layout.specs.declared.declarations.InverseDeclaration.{InverseDeclaration}
 use Rattle.ostore_schema_layout.specs.Limits.{longest_text}
 
--- a value, or the place of the fault
-infixl 10 ◌>>=◌
-abbrev pub ◌>>=◌ : {A B : Type 0} → Result A ℕ → (A → Result B ℕ) → Result B ℕ
-(Ok x) >>= f = f x
-(Err at) >>= f = Err at
-
--- the value, or the fault at this place where there is none
-abbrev pub or_at : {A : Type 0} → ℕ → Option A → Result A ℕ
-or_at at None = Err at
-or_at at (Some x) = Ok x
-
--- ---- the words of a line, counted from 0
-
--- the word, which may not be missing
-abbrev pub word_at : PlacedLine → ℕ → Result PlacedWord ℕ
-word_at line i = or_at line.end (slice_get line.words i)
-
--- the value, where no word stands here any more
-abbrev pub if_ended : {A : Type 0} → Option PlacedWord → A → Result A ℕ
-if_ended None x = Ok x
-if_ended (Some word) x = Err word.at
-
-abbrev pub ended : {A : Type 0} → PlacedLine → ℕ → A → Result A ℕ
-ended line i x = if_ended (slice_get line.words i) x
+-- ---- names, with their places
 
 abbrev pub name_of_word : PlacedWord → NameAt
 name_of_word word = record { at = word.at; name = word.bytes }
 
--- an identifier
 unfoldable pub name_at : PlacedLine → ℕ → Result NameAt ℕ
 name_at line i = do
-  word ← word_at line i
-  if is_identifier word.bytes then Ok (name_of_word word) else Err word.at
-
--- this very word
-unfoldable pub keyword_at : List ℕ → PlacedLine → ℕ → Result PlacedWord ℕ
-keyword_at keyword line i = do
-  word ← word_at line i
-  if bytes_eq word.bytes keyword then Ok word else Err word.at
+  word ← identifier_at line i
+  Ok (name_of_word word)
 
 -- ---- members
 
 -- the greatest length of a text
-unfoldable pub max_at : PlacedLine → ℕ → Result ℕ ℕ
-max_at line i = do
-  word ← word_at line i
-  or_at word.at (count_at 1 longest_text word.bytes)
+abbrev pub max_at : PlacedLine → ℕ → Result ℕ ℕ
+max_at line i = says_at (count_at 1 longest_text) line i
 
 abbrev pub inverse_of_names : ℕ → List ℕ × List ℕ → InverseDeclaration
 inverse_of_names at names = record { at = at; ty = names.0; member = names.1 }
@@ -71,7 +40,7 @@ named_inverse_at line = do
   keyword ← keyword_at (codes "inverse") line 3
   word ← word_at line 4
   names ← or_at word.at (dotted_at word.bytes)
-  ended line 5 (Some (inverse_of_names word.at names))
+  if_ended line 5 (Some (inverse_of_names word.at names))
 
 -- the inverse, where one is named
 abbrev pub if_named : Option PlacedWord → Result (Option InverseDeclaration) ℕ → Result (Option InverseDeclaration) ℕ
@@ -84,7 +53,7 @@ inverse_at line = if_named (slice_get line.words 3) (named_inverse_at line)
 unfoldable pub text_at : PlacedLine → Result KindDeclaration ℕ
 text_at line = do
   max ← max_at line 2
-  ended line 3 (kinds.Text max)
+  if_ended line 3 (kinds.Text max)
 
 unfoldable pub ref_at : PlacedLine → Result KindDeclaration ℕ
 ref_at line = do
@@ -101,17 +70,17 @@ set_at line = do
 unfoldable pub list_at : PlacedLine → Result KindDeclaration ℕ
 list_at line = do
   target ← name_at line 2
-  ended line 3 (kinds.List target)
+  if_ended line 3 (kinds.List target)
 
 unfoldable pub dict_int_at : PlacedLine → Result KindDeclaration ℕ
 dict_int_at line = do
   target ← name_at line 3
-  ended line 4 (kinds.DictInt target)
+  if_ended line 4 (kinds.DictInt target)
 
 unfoldable pub dict_text_at : PlacedLine → Result KindDeclaration ℕ
 dict_text_at line = do
   target ← name_at line 3
-  ended line 4 (kinds.DictText target)
+  if_ended line 4 (kinds.DictText target)
 
 unfoldable pub dict_at : PlacedLine → Result KindDeclaration ℕ
 dict_at line = do
@@ -124,7 +93,7 @@ dict_at line = do
 unfoldable pub kind_at : PlacedLine → Result KindDeclaration ℕ
 kind_at line = do
   kind ← word_at line 1
-  if bytes_eq kind.bytes (codes "int") then ended line 2 kinds.Int
+  if bytes_eq kind.bytes (codes "int") then if_ended line 2 kinds.Int
       else if bytes_eq kind.bytes (codes "text") then text_at line
       else if bytes_eq kind.bytes (codes "ref") then ref_at line
       else if bytes_eq kind.bytes (codes "set") then set_at line
@@ -148,7 +117,7 @@ unfoldable pub type_name_at : PlacedLine → Result NameAt ℕ
 type_name_at line = do
   keyword ← keyword_at (codes "type") line 0
   name ← name_at line 1
-  ended line 2 name
+  if_ended line 2 name
 
 abbrev pub declared_type : NameAt → List MemberDeclaration → TypeDeclaration
 declared_type name members = record { name = name; members = members }

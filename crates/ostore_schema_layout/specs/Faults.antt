@@ -97,12 +97,16 @@ abbrev pub members_found : Option TypeDeclaration → List MemberDeclaration
 members_found None = []
 members_found (Some ty) = ty.members
 
+-- the member that an inverse names, where it is there
+abbrev pub other_member : List TypeDeclaration → InverseDeclaration → Option MemberDeclaration
+other_member types inverse = member_named (members_found (type_named types inverse.ty)) inverse.member
+
 -- `inverse T.m` of a member: T is the member's own target, T.m is another member, and it is the other
 -- side of the link
 unfoldable pub is_inverse : List TypeDeclaration → List ℕ → List ℕ → List ℕ → InverseDeclaration → Bool
 is_inverse types ty member target inverse =
     bytes_eq inverse.ty target && not (names_this inverse ty member)
-    && is_found_side_of (member_named (members_found (type_named types inverse.ty)) inverse.member) ty member
+    && is_found_side_of (other_member types inverse) ty member
 
 -- ---- the faults, in the order of their places, and at one place of their numbers
 
@@ -138,11 +142,14 @@ name_faults earlier ty =
     ++ fault_if (nat_lt largest_cell (declared_sizes ty.members)) (CellTooLarge ty.name.at)
     ++ fault_if (nat_le most_types (length earlier)) (TooManyTypes ty.name.at)
 
+-- of a type, behind earlier types
+abbrev pub type_faults : List TypeDeclaration → List TypeDeclaration → TypeDeclaration → List SchemaFault
+type_faults types earlier ty = name_faults earlier ty ++ members_faults types ty.name.name [] ty.members
+
 unfoldable pub types_faults : List TypeDeclaration → List TypeDeclaration → List TypeDeclaration → List SchemaFault
 types_faults types earlier [] = []
 types_faults types earlier (ty ∷ others) =
-    name_faults earlier ty ++ members_faults types ty.name.name [] ty.members
-    ++ types_faults types (earlier ++ ty ∷ []) others
+    type_faults types earlier ty ++ types_faults types (earlier ++ ty ∷ []) others
 
 -- all faults of what a text declares
 abbrev pub faults_of : List TypeDeclaration → List SchemaFault

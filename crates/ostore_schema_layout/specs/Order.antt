@@ -8,6 +8,7 @@ use Rattle.ostore_schema_layout.specs.Faults.{faults_of}
 use Rattle.std.specs.Prelude.{◌≡◌, ◌⊎◌, ℕ, ◌<◌, ◌≤◌, List, length, None, Ok, Contains}
 use Rattle.std.specs.List.{AllByRecursion}
 use Rattle.ostore_schema_layout.specs.declared.fault.SchemaFault.{SchemaFault}
+use Rattle.ostore_schema_layout.specs.declared.fault.SchemaFault.TheVariants.{OutOfMemory}
 
 -- a fault is before another: it stands before it, or at its place with a lesser number
 abbrev pub IsBefore : SchemaFault → SchemaFault → Type 0
@@ -21,3 +22,6 @@ IsLeastOf faults fault = Contains faults fault × AllByRecursion (λ other. (fau
 abbrev pub IsLeastFault : List ℕ → SchemaFault → Type 0
 IsLeastFault text fault =
     (types : List TypeDeclaration) → length text ≤ longest_schema → utf8_fault text ≡ None → declared_by (lines_of text) ≡ Ok types → IsLeastOf (faults_of types) fault
+
+abbrev pub IsLeastOrMemory : List ℕ → SchemaFault → Type 0
+IsLeastOrMemory text fault = (fault ≡ OutOfMemory) ⊎ IsLeastFault text fault

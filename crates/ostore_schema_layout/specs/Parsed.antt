@@ -34,3 +34,7 @@ parsed text =
 abbrev pub IsOrMemory : {A : Type 0} → Result A SchemaFault → Result A SchemaFault → Type 0
 IsOrMemory (Ok x) read = read ≡ Ok x
 IsOrMemory (Err fault) read = (fault ≡ faults.OutOfMemory) ⊎ (read ≡ Err fault)
+
+-- this value was given, unless memory ran out
+abbrev pub IsOkOrMemory : {A : Type 0} → Result A SchemaFault → A → Type 0
+IsOkOrMemory result x = (result ≡ Ok x) ⊎ (result ≡ Err faults.OutOfMemory)

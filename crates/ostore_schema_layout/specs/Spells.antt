@@ -50,3 +50,7 @@ pub record Spells (text : List ℕ) (schema : Schema) : Type 0 where
   pub utf8 : IsUtf8 text
   pub lines : word_lines text ≡ schema_lines schema
   pub lawful : IsLawful schema
+
+-- the text spells the schema where that is lawful, and the text not too long
+abbrev pub SpellsIfShort : List ℕ → Schema → Type 0
+SpellsIfShort text schema = IsLawful schema → length text ≤ longest_schema → Spells text schema

@@ -1,6 +1,8 @@
 -- How a fault is told: by its number, its name and its place.
 use Rattle.std.specs.Prelude.{ℕ, List, ◌++◌, codes}
 use Rattle.std.specs.Fmt.{decimal}
+use Rattle.ostore_text_words.specs.declared.fault.TextFault.{TextFault}
+use Rattle.ostore_text_words.specs.declared.fault.TextFault.TheVariants as texts
 use Rattle.ostore_schema_layout.specs.declared.fault.SchemaFault.{SchemaFault}
 use Rattle.ostore_schema_layout.specs.declared.fault.SchemaFault.TheVariants.{Syntax, DuplicateType, DuplicateMember, UnknownType, InverseMismatch, CellTooLarge, TooManyTypes, TooManyMembers, TooLong, NotUtf8, OutOfMemory}
 
@@ -44,6 +46,11 @@ fault_place (TooManyMembers at) = at
 fault_place (TooLong at) = at
 fault_place (NotUtf8 at) = at
 fault_place OutOfMemory = 0
+
+-- a fault of the words of a schema's text
+abbrev pub fault_of_words : TextFault → SchemaFault
+fault_of_words (texts.Syntax at) = Syntax at
+fault_of_words texts.OutOfMemory = OutOfMemory
 
 -- how a fault is written
 abbrev pub fault_text : SchemaFault → List ℕ

@@ -1,10 +1,11 @@
 //! What is wrong with a schema's text.
 
 ghost use Rattle.std.specs.Prelude.{◌≡◌, Some};
-ghost use Rattle.ostore_schema_layout.specs.Titles.{fault_name, fault_number, fault_place, fault_text};
+ghost use Rattle.ostore_schema_layout.specs.Titles.{fault_name, fault_number, fault_of_words, fault_place, fault_text};
 ghost use Rattle.ostore_schema_layout.specs.declared.fault.SchemaFault.TheVariants.{OutOfMemory as Memory};
 
 use ostore_base::OutOfMemory;
+use ostore_text_words::TextFault;
 use std::fmt;
 
 /// Why a text is no schema, and where: `at` counts the text's bytes from 0. TooLong is judged first, then
@@ -114,5 +115,16 @@ impl From<OutOfMemory> for SchemaFault {
 
     fn from(_refused: OutOfMemory) -> SchemaFault {
         SchemaFault::OutOfMemory
+    }
+}
+
+impl From<TextFault> for SchemaFault {
+    ghost from_gives = { λ words fault. fault ≡ fault_of_words words };
+
+    fn from(words: TextFault) -> SchemaFault {
+        match words {
+            TextFault::Syntax { at } => SchemaFault::Syntax { at },
+            TextFault::OutOfMemory => SchemaFault::OutOfMemory,
+        }
     }
 }

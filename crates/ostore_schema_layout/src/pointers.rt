@@ -4,7 +4,7 @@ ghost use Rattle.std.specs.Prelude.{◌≡◌, ◌≢◌, ◌+◌, ◌≤◌, []
 ghost use Rattle.std.specs.List.{AllByRecursion, find};
 ghost use Rattle.std.specs.List.Sorted.{IsStrictlyIncreasing};
 ghost use Rattle.ostore_schema_layout.specs.Limits.{largest_cell};
-ghost use Rattle.ostore_schema_layout.specs.Cells.{HasCode, chunk_of, chunk_pointers, code_size, descriptor_code, entry_pointers, pointer_from, pointers_of, pointers_of_kind, sizes, type_pointers};
+ghost use Rattle.ostore_schema_layout.specs.Cells.{AreInCell, HasCode, chunk_of, chunk_pointers, code_size, descriptor_code, entry_pointers, pointer_from, pointers_of, pointers_of_kind, sizes, type_pointers};
 ghost use Rattle.ostore_schema_layout.specs.Lawful.{IsLawful};
 
 mod walk;
@@ -193,7 +193,7 @@ pub fn pointer_places(alloc: Global, schema: &Schema, code: u8) -> Result<Vec<u1
     requires there { HasCode schema.now code }
     ensures exact { IfOk result (λ places. places.items ≡ pointers_of schema.now code) }
     ensures ascending { IfOk result (λ places. IsStrictlyIncreasing places.items) }
-    ensures within { IfOk result (λ places. AllByRecursion (λ place. place + 4 ≤ code_size schema.now code) places.items) }
+    ensures within { IfOk result (λ places. AreInCell schema.now code places.items) }
 {
     let mut places = Vec::new(alloc);
     if code < FIRST_CHUNK {

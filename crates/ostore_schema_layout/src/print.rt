@@ -4,8 +4,8 @@ ghost use Rattle.std.specs.Prelude.{◌≡◌, ◌≤◌, [], ◌∷◌, ◌++�
 ghost use Rattle.std.specs.List.{flat_map};
 ghost use Rattle.ostore_text_words.specs.Lines.{joined, text_of_lines};
 ghost use Rattle.ostore_schema_layout.specs.Lawful.{IsLawful};
-ghost use Rattle.ostore_schema_layout.specs.inside.Spaced.{spaced};
-ghost use Rattle.ostore_schema_layout.specs.Spells.{Spells, canonical_text, inverse_words, kind_words, member_words, type_lines};
+ghost use Rattle.ostore_schema_layout.specs.inside.Spaced.{members_text, spaced, types_text};
+ghost use Rattle.ostore_schema_layout.specs.Spells.{SpellsIfShort, canonical_text, inverse_words, kind_words, member_words, type_lines};
 ghost use Rattle.ostore_schema_layout.specs.Limits.{longest_schema};
 
 use crate::schema::{Inverse, MemberDef, MemberKind, Schema, TypeDef};
@@ -18,7 +18,7 @@ use std::alloc::Global;
 /// bytes.
 pub fn print_schema(alloc: Global, schema: &Schema) -> Result<Text, OutOfMemory>
     ensures exact { IfOk result (λ text. text ≡ canonical_text schema.now) }
-    ensures spells { IfOk result (λ text. IsLawful schema.now → length text ≤ longest_schema → Spells text schema.now) }
+    ensures spells { IfOk result (λ text. SpellsIfShort text schema.now) }
 {
     let mut out = Text::new(alloc);
     push_types(&mut out, schema, schema.types.items())?;
@@ -27,7 +27,7 @@ pub fn print_schema(alloc: Global, schema: &Schema) -> Result<Text, OutOfMemory>
 
 /// Adds the lines of types of the schema.
 fn push_types(out: &mut Text, schema: &Schema, types: &[TypeDef]) -> Result<(), OutOfMemory>
-    ensures { OnOk result (out.new ≡ out.old ++ text_of_lines (flat_map (type_lines schema.now) types.now)) }
+    ensures { OnOk result (out.new ≡ out.old ++ types_text schema.now types.now) }
 {
     for ty in types {
         push_type(out, schema, ty)?;
@@ -47,7 +47,7 @@ fn push_type(out: &mut Text, schema: &Schema, ty: &TypeDef) -> Result<(), OutOfM
 
 /// Adds the lines of members.
 fn push_members(out: &mut Text, schema: &Schema, members: &[MemberDef]) -> Result<(), OutOfMemory>
-    ensures { OnOk result (out.new ≡ out.old ++ text_of_lines (map (member_words schema.now) members.now)) }
+    ensures { OnOk result (out.new ≡ out.old ++ members_text schema.now members.now) }
 {
     for member in members {
         push_member(out, schema, member)?;

@@ -10,9 +10,10 @@ use Rattle.ostore_schema_layout.specs.declared.declarations.MemberDeclaration.{M
 use Rattle.ostore_schema_layout.specs.declared.declarations.KindDeclaration.{KindDeclaration}
 use Rattle.ostore_schema_layout.specs.declared.declarations.KindDeclaration.TheVariants as kinds
 use Rattle.ostore_schema_layout.specs.declared.declarations.InverseDeclaration.{InverseDeclaration}
-use Rattle.ostore_schema_layout.specs.DeclaredBy.{◌>>=◌, or_at, word_at, ended, name_of_word, name_at, keyword_at, max_at, inverse_of_names, named_inverse_at, if_named, inverse_at, text_at, ref_at, set_at, list_at, dict_int_at, dict_text_at, dict_at, kind_at, declared_member, member_at, type_name_at, declared_type, is_type_line, declared_behind, declared_by}
+use Rattle.ostore_text_words.specs.LineWords.{identifier_at, ◌>>=◌, or_at, word_at, if_ended, keyword_at}
+use Rattle.ostore_schema_layout.specs.DeclaredBy.{name_of_word, name_at, max_at, inverse_of_names, named_inverse_at, if_named, inverse_at, text_at, ref_at, set_at, list_at, dict_int_at, dict_text_at, dict_at, kind_at, declared_member, member_at, type_name_at, declared_type, is_type_line, declared_behind, declared_by}
 use Rattle.ostore_schema_layout.specs.Faults.{target_named, inverse_named}
-use Rattle.ostore_schema_layout.proofs.spelled.DeclaredWords.{bind_ok, same_ok, or_at_ok, cond_ok, chosen, ended_taken}
+use Rattle.ostore_text_words.proofs.LineWordLaws.{identifier_taken, bind_ok, same_ok, or_at_ok, cond_ok, chosen, ended_taken}
 use Rattle.ostore_schema_layout.proofs.spelled.DeclaredKinds.{dict_by, kind_by}
 use Rattle.ostore_schema_layout.proofs.spelled.DeclaredLaws.{Behind}
 use Rattle.ostore_schema_layout.proofs.ordered.OrderLawsLines.{AreWordsIn, AreLinesFrom, lines_rise, word_in, later_word, words_apart}
@@ -53,9 +54,9 @@ word_got line i word e = or_at_ok line.end (slice_get line.words i) word e
 pub name_got : (line : PlacedLine) (i : ℕ) (name : NameAt) → name_at line i ≡ Ok name → (word : PlacedWord) × (slice_get line.words i ≡ Some word) × (word.at ≡ name.at)
 unfolding name_at
 name_got line i name e =
-    let w = bind_ok (word_at line i) (λ word. cond (is_identifier word.bytes) (Ok (name_of_word word)) (Err word.at)) name e in
-    let g = cond_ok (is_identifier w.0.bytes) (name_of_word w.0) name w.0.at w.2 in
-    (w.0, word_got line i w.0 w.1, ap (λ (n : NameAt). n.at) g.1)
+    let w = bind_ok (identifier_at line i) (λ word. Ok (name_of_word word)) name e in
+    let t = identifier_taken line i w.0 w.1 in
+    (w.0, word_got line i w.0 t.0, ap (λ (n : NameAt). n.at) (same_ok (name_of_word w.0) name w.2))
 
 -- a name behind the first word
 pub later_name : (from : ℕ) (line : PlacedLine) (first : PlacedWord) (i : ℕ) (name : NameAt) → AreWordsIn from line.end line.words → slice_get line.words 0 ≡ Some first → name_at line (suc i) ≡ Ok name
@@ -73,16 +74,16 @@ abbrev IsWord4In : ℕ → ℕ → PlacedLine → Type 0
 IsWord4In from until line = (word : PlacedWord) → slice_get line.words 4 ≡ Some word → (from ≤ word.at) × (word.at < until)
 
 -- an inverse stands where its word stands
-word_inverse_got : (from until : ℕ) (line : PlacedLine) (word : PlacedWord) (names : List ℕ × List ℕ) (inverse : Option InverseDeclaration) → (from ≤ word.at) × (word.at < until) → ended line 5 (Some (inverse_of_names word.at names)) ≡ Ok inverse → IsInverseIn from until inverse
+word_inverse_got : (from until : ℕ) (line : PlacedLine) (word : PlacedWord) (names : List ℕ × List ℕ) (inverse : Option InverseDeclaration) → (from ≤ word.at) × (word.at < until) → if_ended line 5 (Some (inverse_of_names word.at names)) ≡ Ok inverse → IsInverseIn from until inverse
 word_inverse_got from until line word names inverse there e =
     subst (IsInverseIn from until) (ended_taken line 5 (Some (inverse_of_names word.at names)) inverse e).1 there
 
 named_inverse_got : (from until : ℕ) (line : PlacedLine) (inverse : Option InverseDeclaration) → IsWord4In from until line → named_inverse_at line ≡ Ok inverse → IsInverseIn from until inverse
 unfolding named_inverse_at
 named_inverse_got from until line inverse there e =
-    let k = bind_ok (keyword_at (codes "inverse") line 3) (λ keyword. word_at line 4 >>= λ word. or_at word.at (dotted_at word.bytes) >>= λ names. ended line 5 (Some (inverse_of_names word.at names))) inverse e in
-    let w = bind_ok (word_at line 4) (λ word. or_at word.at (dotted_at word.bytes) >>= λ names. ended line 5 (Some (inverse_of_names word.at names))) inverse k.2 in
-    let n = bind_ok (or_at w.0.at (dotted_at w.0.bytes)) (λ names. ended line 5 (Some (inverse_of_names w.0.at names))) inverse w.2 in
+    let k = bind_ok (keyword_at (codes "inverse") line 3) (λ keyword. word_at line 4 >>= λ word. or_at word.at (dotted_at word.bytes) >>= λ names. if_ended line 5 (Some (inverse_of_names word.at names))) inverse e in
+    let w = bind_ok (word_at line 4) (λ word. or_at word.at (dotted_at word.bytes) >>= λ names. if_ended line 5 (Some (inverse_of_names word.at names))) inverse k.2 in
+    let n = bind_ok (or_at w.0.at (dotted_at w.0.bytes)) (λ names. if_ended line 5 (Some (inverse_of_names w.0.at names))) inverse w.2 in
     word_inverse_got from until line w.0 n.0 inverse (there w.0 (word_got line 4 w.0 w.1)) n.2
 
 if_named_got : (from until : ℕ) (line : PlacedLine) (o : Option PlacedWord) (inverse : Option InverseDeclaration) → IsWord4In from until line → if_named o (named_inverse_at line) ≡ Ok inverse → IsInverseIn from until inverse
@@ -108,9 +109,9 @@ linked_got from line first target inverse r f e g =
 -- a target alone, at the end of the line
 alone_got : (from : ℕ) (line : PlacedLine) (first : PlacedWord) (i : ℕ) (of_name : NameAt → KindDeclaration) (kind : KindDeclaration) → AreWordsIn from line.end line.words → slice_get line.words 0 ≡ Some first
     → ((name : NameAt) → target_named (of_name name) ≡ Some name) → ((name : NameAt) → inverse_named (of_name name) ≡ None)
-    → (name_at line (suc i) >>= λ target. ended line (suc (suc i)) (of_name target)) ≡ Ok kind → IsKindIn (first.at + 1) line.end kind
+    → (name_at line (suc i) >>= λ target. if_ended line (suc (suc i)) (of_name target)) ≡ Ok kind → IsKindIn (first.at + 1) line.end kind
 alone_got from line first i of_name kind r f named alone e =
-    let n = bind_ok (name_at line (suc i)) (λ target. ended line (suc (suc i)) (of_name target)) kind e in
+    let n = bind_ok (name_at line (suc i)) (λ target. if_ended line (suc (suc i)) (of_name target)) kind e in
     let last = ended_taken line (suc (suc i)) (of_name n.0) kind n.2 in
     let t = later_name from line first i n.0 r f n.1 in
     let here : IsTargetIn (first.at + 1) line.end (Some n.0) None = (t.0, t.1, tt) in
@@ -121,7 +122,7 @@ alone_got from line first i of_name kind r f named alone e =
 text_got : (from until : ℕ) (line : PlacedLine) (kind : KindDeclaration) → text_at line ≡ Ok kind → IsKindIn from until kind
 unfolding text_at
 text_got from until line kind e =
-    let m = bind_ok (max_at line 2) (λ max. ended line 3 (kinds.Text max)) kind e in
+    let m = bind_ok (max_at line 2) (λ max. if_ended line 3 (kinds.Text max)) kind e in
     let last = ended_taken line 3 (kinds.Text m.0) kind m.2 in
     subst (IsKindIn from until) last.1 tt
 
@@ -168,7 +169,7 @@ dict_got from line first kind r f e =
     (λ e. either P (bytes_eq w.0.bytes (codes "text")) (dict_text_at line) _ (Ok kind) e (dict_text_got from line first kind r f)
     (λ e. no_kind w.0.at kind e))
 
-int_got : (from until : ℕ) (line : PlacedLine) (kind : KindDeclaration) → ended line 2 kinds.Int ≡ Ok kind → IsKindIn from until kind
+int_got : (from until : ℕ) (line : PlacedLine) (kind : KindDeclaration) → if_ended line 2 kinds.Int ≡ Ok kind → IsKindIn from until kind
 int_got from until line kind e = let last = ended_taken line 2 kinds.Int kind e in subst (IsKindIn from until) last.1 tt
 
 pub kind_got : (from : ℕ) (line : PlacedLine) (first : PlacedWord) (kind : KindDeclaration) → AreWordsIn from line.end line.words → slice_get line.words 0 ≡ Some first → kind_at line ≡ Ok kind → IsKindIn (first.at + 1) line.end kind
@@ -177,7 +178,7 @@ kind_got from line first kind r f e =
     let w = bind_ok (word_at line 1) (λ word. kind_by line word.at word.bytes) kind e in
     let b = w.0.bytes in
     let P = IsKindIn (first.at + 1) line.end kind in
-    either P (bytes_eq b (codes "int")) (ended line 2 kinds.Int) _ (Ok kind) w.2 (int_got (first.at + 1) line.end line kind)
+    either P (bytes_eq b (codes "int")) (if_ended line 2 kinds.Int) _ (Ok kind) w.2 (int_got (first.at + 1) line.end line kind)
     (λ e. either P (bytes_eq b (codes "text")) (text_at line) _ (Ok kind) e (text_got (first.at + 1) line.end line kind)
     (λ e. either P (bytes_eq b (codes "ref")) (ref_at line) _ (Ok kind) e (ref_got from line first kind r f)
     (λ e. either P (bytes_eq b (codes "set")) (set_at line) _ (Ok kind) e (set_got from line first kind r f)
@@ -204,8 +205,8 @@ member_got from line member r e =
 pub type_name_got : (from : ℕ) (line : PlacedLine) (name : NameAt) → AreWordsIn from line.end line.words → type_name_at line ≡ Ok name → (from ≤ name.at) × (name.at < line.end)
 unfolding type_name_at
 type_name_got from line name r e =
-    let k = bind_ok (keyword_at (codes "type") line 0) (λ keyword. name_at line 1 >>= λ n. ended line 2 n) name e in
-    let n = bind_ok (name_at line 1) (λ n. ended line 2 n) name k.2 in
+    let k = bind_ok (keyword_at (codes "type") line 0) (λ keyword. name_at line 1 >>= λ n. if_ended line 2 n) name e in
+    let n = bind_ok (name_at line 1) (λ n. if_ended line 2 n) name k.2 in
     let last = ended_taken line 2 n.0 name n.2 in
     let w = name_got line 1 n.0 n.1 in
     let within = word_in from line.end line.words 1 w.0 r w.1 in

@@ -8,14 +8,12 @@ use Rattle.ostore_schema_layout.specs.declared.declarations.MemberDeclaration.{M
 use Rattle.ostore_schema_layout.specs.declared.declarations.KindDeclaration.{KindDeclaration}
 use Rattle.ostore_schema_layout.specs.declared.declarations.KindDeclaration.TheVariants as kinds
 use Rattle.ostore_schema_layout.specs.declared.declarations.InverseDeclaration.{InverseDeclaration}
-use Rattle.ostore_schema_layout.specs.DeclaredBy.{◌>>=◌, or_at, word_at, ended, keyword_at, name_at, max_at, inverse_of_names, named_inverse_at, if_named, inverse_at, text_at, ref_at, set_at, list_at, dict_int_at, dict_text_at, dict_at, kind_at, declared_member, member_at, type_name_at}
+use Rattle.ostore_text_words.specs.LineWords.{◌>>=◌, or_at, word_at, if_ended, keyword_at}
+use Rattle.ostore_schema_layout.specs.DeclaredBy.{name_at, max_at, inverse_of_names, named_inverse_at, if_named, inverse_at, text_at, ref_at, set_at, list_at, dict_int_at, dict_text_at, dict_at, kind_at, declared_member, member_at, type_name_at}
 use Rattle.ostore_schema_layout.proofs.spelled.Declared.{spelled_inverse, spelled_kind, spelled_member, IsNamedInverse, IsNamedKind, IsNamedMember, unplaced_name, unplaced_inverse, unplaced_kind, unplaced_member}
 use Rattle.ostore_schema_layout.proofs.spelled.DeclaredKinds.{dict_by, kind_by}
-use Rattle.ostore_schema_layout.proofs.spelled.DeclaredWords.{bare_at, word_from_bare, none_from_bare, word_again, ended_again, name_again, keyword_again, max_again}
-
--- a step that gives a value, and what follows from the value
-pub bind_again : {A B : Type 0} (r : Result A ℕ) (f : A → Result B ℕ) (x : A) (s : Result B ℕ) → r ≡ Ok x → f x ≡ s → (r >>= f) ≡ s
-bind_again {A = A} r f x s e g = ap (λ (q : Result A ℕ). q >>= f) e ∙ g
+use Rattle.ostore_text_words.proofs.LineWordLaws.{bind_again, bare_at, word_from_bare, none_from_bare, word_again, ended_again, keyword_again}
+use Rattle.ostore_schema_layout.proofs.spelled.DeclaredWords.{name_again, max_again}
 
 -- ---- inverses
 
@@ -30,9 +28,9 @@ named_inverse_again line inverse e h =
     let names : dotted_at w.0.bytes ≡ Some (inverse.ty, inverse.member) = ap dotted_at w.2 ∙ dotted_again inverse.ty inverse.member h.0 h.1 in
     let placed = Some (inverse_of_names w.0.at (inverse.ty, inverse.member)) in (
       placed,
-      bind_again (keyword_at (codes "inverse") line 3) (λ keyword. word_at line 4 >>= λ word. or_at word.at (dotted_at word.bytes) >>= λ ns. ended line 5 (Some (inverse_of_names word.at ns))) k.0 (Ok placed) k.1
-          (bind_again (word_at line 4) (λ word. or_at word.at (dotted_at word.bytes) >>= λ ns. ended line 5 (Some (inverse_of_names word.at ns))) w.0 (Ok placed) w.1
-          (bind_again (or_at w.0.at (dotted_at w.0.bytes)) (λ ns. ended line 5 (Some (inverse_of_names w.0.at ns))) (inverse.ty, inverse.member) (Ok placed) (ap (or_at w.0.at) names)
+      bind_again (keyword_at (codes "inverse") line 3) (λ keyword. word_at line 4 >>= λ word. or_at word.at (dotted_at word.bytes) >>= λ ns. if_ended line 5 (Some (inverse_of_names word.at ns))) k.0 (Ok placed) k.1
+          (bind_again (word_at line 4) (λ word. or_at word.at (dotted_at word.bytes) >>= λ ns. if_ended line 5 (Some (inverse_of_names word.at ns))) w.0 (Ok placed) w.1
+          (bind_again (or_at w.0.at (dotted_at w.0.bytes)) (λ ns. if_ended line 5 (Some (inverse_of_names w.0.at ns))) (inverse.ty, inverse.member) (Ok placed) (ap (or_at w.0.at) names)
           (ended_again line 5 placed w.3))),
       refl,
     )
@@ -61,7 +59,7 @@ text_again : (line : PlacedLine) (max : ℕ) → bare_at line 2 ≡ decimal max 
 unfolding text_at
 text_again line max e h =
     let m = max_again line 2 max [] e h.0 h.1 in
-    (kinds.Text max, bind_again (max_at line 2) (λ n. ended line 3 (kinds.Text n)) max (Ok (kinds.Text max)) m.0 (ended_again line 3 (kinds.Text max) m.1), refl)
+    (kinds.Text max, bind_again (max_at line 2) (λ n. if_ended line 3 (kinds.Text n)) max (Ok (kinds.Text max)) m.0 (ended_again line 3 (kinds.Text max) m.1), refl)
 
 ref_again : (line : PlacedLine) (target : NameAt) (inverse : Option InverseDeclaration) → bare_at line 2 ≡ target.name ∷ spelled_inverse inverse → IsNamedKind (kinds.Ref target inverse) → ReadsKind (ref_at line) (kinds.Ref target inverse)
 unfolding ref_at
@@ -87,10 +85,10 @@ set_again line target inverse e h =
 
 -- an identifier, and the end of the line
 last_name_again : {A : Type 0} (line : PlacedLine) (i : ℕ) (of_name : NameAt → A) (name : List ℕ) → bare_at line i ≡ name ∷ [] → IsTrue (is_identifier name)
-    → (target : NameAt) × ((name_at line i >>= λ t. ended line (suc i) (of_name t)) ≡ Ok (of_name target)) × (target.name ≡ name)
+    → (target : NameAt) × ((name_at line i >>= λ t. if_ended line (suc i) (of_name t)) ≡ Ok (of_name target)) × (target.name ≡ name)
 last_name_again line i of_name name e h =
     let n = name_again line i name [] e h in
-    (n.0, bind_again (name_at line i) (λ t. ended line (suc i) (of_name t)) n.0 (Ok (of_name n.0)) n.1 (ended_again line (suc i) (of_name n.0) n.3), n.2)
+    (n.0, bind_again (name_at line i) (λ t. if_ended line (suc i) (of_name t)) n.0 (Ok (of_name n.0)) n.1 (ended_again line (suc i) (of_name n.0) n.3), n.2)
 
 list_again : (line : PlacedLine) (target : NameAt) → bare_at line 2 ≡ target.name ∷ [] → IsTrue (is_identifier target.name) → ReadsKind (list_at line) (kinds.List target)
 unfolding list_at
@@ -127,7 +125,7 @@ kind_from line kind others r choice e =
 pub kind_again : (line : PlacedLine) (kind : KindDeclaration) → bare_at line 1 ≡ spelled_kind kind → IsNamedKind kind
     → (placed : KindDeclaration) × (kind_at line ≡ Ok placed) × (unplaced_kind placed ≡ unplaced_kind kind)
 kind_again line kinds.Int e h =
-    let k = kind_from line (codes "int") [] (ended line 2 kinds.Int) (λ at. refl) e in
+    let k = kind_from line (codes "int") [] (if_ended line 2 kinds.Int) (λ at. refl) e in
     (kinds.Int, k.0 ∙ ended_again line 2 kinds.Int k.1, refl)
 kind_again line (kinds.Text max) e h =
     let k = kind_from line (codes "text") (decimal max ∷ []) (text_at line) (λ at. refl) e in
@@ -171,4 +169,4 @@ unfolding type_name_at
 type_name_again line name e h =
     let k = keyword_again (codes "type") line 0 (name ∷ []) e in
     let n = last_name_again line 1 (λ t. t) name k.2 h in
-    (n.0, bind_again (keyword_at (codes "type") line 0) (λ keyword. name_at line 1 >>= λ t. ended line 2 t) k.0 (Ok n.0) k.1 n.1, n.2)
+    (n.0, bind_again (keyword_at (codes "type") line 0) (λ keyword. name_at line 1 >>= λ t. if_ended line 2 t) k.0 (Ok n.0) k.1 n.1, n.2)

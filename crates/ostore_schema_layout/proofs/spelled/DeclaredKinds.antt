@@ -9,9 +9,11 @@ use Rattle.ostore_schema_layout.specs.declared.declarations.MemberDeclaration.{M
 use Rattle.ostore_schema_layout.specs.declared.declarations.KindDeclaration.{KindDeclaration}
 use Rattle.ostore_schema_layout.specs.declared.declarations.KindDeclaration.TheVariants as kinds
 use Rattle.ostore_schema_layout.specs.declared.declarations.InverseDeclaration.{InverseDeclaration}
-use Rattle.ostore_schema_layout.specs.DeclaredBy.{◌>>=◌, or_at, word_at, ended, keyword_at, name_at, max_at, inverse_of_names, named_inverse_at, if_named, inverse_at, text_at, ref_at, set_at, list_at, dict_int_at, dict_text_at, dict_at, kind_at, declared_member, member_at, type_name_at}
+use Rattle.ostore_text_words.specs.LineWords.{◌>>=◌, or_at, word_at, if_ended, keyword_at}
+use Rattle.ostore_schema_layout.specs.DeclaredBy.{name_at, max_at, inverse_of_names, named_inverse_at, if_named, inverse_at, text_at, ref_at, set_at, list_at, dict_int_at, dict_text_at, dict_at, kind_at, declared_member, member_at, type_name_at}
 use Rattle.ostore_schema_layout.proofs.spelled.Declared.{spelled_inverse, spelled_kind, spelled_member, IsNamedInverse, IsNamedKind, IsNamedMember}
-use Rattle.ostore_schema_layout.proofs.spelled.DeclaredWords.{bind_ok, same_ok, or_at_ok, chosen, bytes_are, bare_at, bare_from_past, word_taken, ended_taken, name_taken, keyword_taken, max_taken}
+use Rattle.ostore_text_words.proofs.LineWordLaws.{bind_ok, same_ok, or_at_ok, chosen, bytes_are, bare_at, bare_from_past, word_taken, ended_taken, keyword_taken}
+use Rattle.ostore_schema_layout.proofs.spelled.DeclaredWords.{name_taken, max_taken}
 
 -- the first word, and those behind it
 cons_is : {A : Type 0} (all : List A) (x : A) (xs ys : List A) → all ≡ x ∷ xs → xs ≡ ys → all ≡ x ∷ ys
@@ -28,7 +30,7 @@ IsSpelledInverse words inverse = (words ≡ spelled_inverse inverse) × IsNamedI
 
 -- the words of an inverse, from those of its two words
 inverse_words : (line : PlacedLine) (word : PlacedWord) (names : List ℕ × List ℕ) (inverse : Option InverseDeclaration) → bare_at line 3 ≡ codes "inverse" ∷ bare_at line 4 → bare_at line 4 ≡ word.bytes ∷ bare_at line 5
-    → dotted_at word.bytes ≡ Some (names.0, names.1) → ended line 5 (Some (inverse_of_names word.at names)) ≡ Ok inverse → IsSpelledInverse (bare_at line 3) inverse
+    → dotted_at word.bytes ≡ Some (names.0, names.1) → if_ended line 5 (Some (inverse_of_names word.at names)) ≡ Ok inverse → IsSpelledInverse (bare_at line 3) inverse
 inverse_words line word names inverse e f g h =
     let d = dotted_taken word.bytes names.0 names.1 g in
     let last = ended_taken line 5 (Some (inverse_of_names word.at names)) inverse h in
@@ -38,9 +40,9 @@ inverse_words line word names inverse e f g h =
 named_inverse_taken : (line : PlacedLine) (inverse : Option InverseDeclaration) → named_inverse_at line ≡ Ok inverse → IsSpelledInverse (bare_at line 3) inverse
 unfolding named_inverse_at
 named_inverse_taken line inverse e =
-    let k = bind_ok (keyword_at (codes "inverse") line 3) (λ keyword. word_at line 4 >>= λ word. or_at word.at (dotted_at word.bytes) >>= λ names. ended line 5 (Some (inverse_of_names word.at names))) inverse e in
-    let w = bind_ok (word_at line 4) (λ word. or_at word.at (dotted_at word.bytes) >>= λ names. ended line 5 (Some (inverse_of_names word.at names))) inverse k.2 in
-    let n = bind_ok (or_at w.0.at (dotted_at w.0.bytes)) (λ names. ended line 5 (Some (inverse_of_names w.0.at names))) inverse w.2 in
+    let k = bind_ok (keyword_at (codes "inverse") line 3) (λ keyword. word_at line 4 >>= λ word. or_at word.at (dotted_at word.bytes) >>= λ names. if_ended line 5 (Some (inverse_of_names word.at names))) inverse e in
+    let w = bind_ok (word_at line 4) (λ word. or_at word.at (dotted_at word.bytes) >>= λ names. if_ended line 5 (Some (inverse_of_names word.at names))) inverse k.2 in
+    let n = bind_ok (or_at w.0.at (dotted_at w.0.bytes)) (λ names. if_ended line 5 (Some (inverse_of_names w.0.at names))) inverse w.2 in
     inverse_words line w.0 n.0 inverse (keyword_taken (codes "inverse") line 3 k.0 k.1) (word_taken line 4 w.0 w.1) (or_at_ok w.0.at (dotted_at w.0.bytes) n.0 n.1) n.2
 
 if_named_taken : (line : PlacedLine) (o : Option PlacedWord) (inverse : Option InverseDeclaration) → slice_get line.words 3 ≡ o → if_named o (named_inverse_at line) ≡ Ok inverse → IsSpelledInverse (bare_at line 3) inverse
@@ -55,7 +57,7 @@ inverse_taken line inverse e = if_named_taken line (slice_get line.words 3) inve
 abbrev IsSpelledKind : List (List ℕ) → KindDeclaration → Type 0
 IsSpelledKind words kind = (words ≡ spelled_kind kind) × IsNamedKind kind
 
-int_taken : (line : PlacedLine) (kind : KindDeclaration) → ended line 2 kinds.Int ≡ Ok kind → IsSpelledKind (codes "int" ∷ bare_at line 2) kind
+int_taken : (line : PlacedLine) (kind : KindDeclaration) → if_ended line 2 kinds.Int ≡ Ok kind → IsSpelledKind (codes "int" ∷ bare_at line 2) kind
 int_taken line kind e =
     let last = ended_taken line 2 kinds.Int kind e in
     subst (IsSpelledKind (codes "int" ∷ bare_at line 2)) last.1 (ap (λ (ws : List (List ℕ)). codes "int" ∷ ws) last.0, tt)
@@ -63,7 +65,7 @@ int_taken line kind e =
 text_taken : (line : PlacedLine) (kind : KindDeclaration) → text_at line ≡ Ok kind → IsSpelledKind (codes "text" ∷ bare_at line 2) kind
 unfolding text_at
 text_taken line kind e =
-    let m = bind_ok (max_at line 2) (λ max. ended line 3 (kinds.Text max)) kind e in
+    let m = bind_ok (max_at line 2) (λ max. if_ended line 3 (kinds.Text max)) kind e in
     let t = max_taken line 2 m.0 m.1 in
     let last = ended_taken line 3 (kinds.Text m.0) kind m.2 in
     subst (IsSpelledKind (codes "text" ∷ bare_at line 2)) last.1
@@ -90,10 +92,10 @@ set_taken line kind e =
     (ap (λ (ws : List (List ℕ)). codes "set" ∷ ws) (cons_is (bare_at line 2) n.0.name (bare_at line 3) _ t.0 u.0), (t.1, u.1))
 
 -- an identifier, and the end of the line
-last_name_taken : {A : Type 0} (line : PlacedLine) (i : ℕ) (of_name : NameAt → A) (kind : A) → (name_at line i >>= λ target. ended line (suc i) (of_name target)) ≡ Ok kind
+last_name_taken : {A : Type 0} (line : PlacedLine) (i : ℕ) (of_name : NameAt → A) (kind : A) → (name_at line i >>= λ target. if_ended line (suc i) (of_name target)) ≡ Ok kind
     → (target : NameAt) × (bare_at line i ≡ target.name ∷ []) × IsTrue (is_identifier target.name) × (of_name target ≡ kind)
 last_name_taken line i of_name kind e =
-    let n = bind_ok (name_at line i) (λ target. ended line (suc i) (of_name target)) kind e in
+    let n = bind_ok (name_at line i) (λ target. if_ended line (suc i) (of_name target)) kind e in
     let t = name_taken line i n.0 n.1 in
     let last = ended_taken line (suc i) (of_name n.0) kind n.2 in
     (n.0, cons_is (bare_at line i) n.0.name (bare_at line (suc i)) [] t.0 last.0, t.1, last.1)
@@ -147,7 +149,7 @@ dict_taken line kind e =
 -- what stands behind the name by its word 1, whose place is `at`
 abbrev pub kind_by : PlacedLine → ℕ → List ℕ → Result KindDeclaration ℕ
 kind_by line at kind =
-    cond (bytes_eq kind (codes "int")) (ended line 2 kinds.Int)
+    cond (bytes_eq kind (codes "int")) (if_ended line 2 kinds.Int)
     (cond (bytes_eq kind (codes "text")) (text_at line)
     (cond (bytes_eq kind (codes "ref")) (ref_at line)
     (cond (bytes_eq kind (codes "set")) (set_at line)
@@ -157,7 +159,7 @@ kind_by line at kind =
 kind_by_taken : (line : PlacedLine) (word : PlacedWord) (kind : KindDeclaration) → kind_by line word.at word.bytes ≡ Ok kind → IsSpelledKind (word.bytes ∷ bare_at line 2) kind
 kind_by_taken line word kind e =
     let P = λ (b : List ℕ). IsSpelledKind (b ∷ bare_at line 2) kind in
-    choice word.bytes (codes "int") (ended line 2 kinds.Int) _ (Ok kind) P e (int_taken line kind)
+    choice word.bytes (codes "int") (if_ended line 2 kinds.Int) _ (Ok kind) P e (int_taken line kind)
     (λ e. choice word.bytes (codes "text") (text_at line) _ (Ok kind) P e (text_taken line kind)
     (λ e. choice word.bytes (codes "ref") (ref_at line) _ (Ok kind) P e (ref_taken line kind)
     (λ e. choice word.bytes (codes "set") (set_at line) _ (Ok kind) P e (set_taken line kind)
@@ -186,7 +188,7 @@ member_taken line member e =
 pub type_name_taken : (line : PlacedLine) (name : NameAt) → type_name_at line ≡ Ok name → (bare_at line 0 ≡ codes "type" ∷ name.name ∷ []) × IsTrue (is_identifier name.name)
 unfolding type_name_at
 type_name_taken line name e =
-    let k = bind_ok (keyword_at (codes "type") line 0) (λ keyword. name_at line 1 >>= λ n. ended line 2 n) name e in
+    let k = bind_ok (keyword_at (codes "type") line 0) (λ keyword. name_at line 1 >>= λ n. if_ended line 2 n) name e in
     let t = last_name_taken line 1 (λ n. n) name k.2 in
     subst (λ (m : NameAt). (bare_at line 0 ≡ codes "type" ∷ m.name ∷ []) × IsTrue (is_identifier m.name)) t.3
     (cons_is (bare_at line 0) (codes "type") (bare_at line 1) (t.0.name ∷ []) (keyword_taken (codes "type") line 0 k.0 k.1) t.1, t.2)

@@ -6,11 +6,13 @@ use Rattle.ostore_text_words.specs.Lines.{PlacedLine, bare_words, bare_lines}
 use Rattle.ostore_schema_layout.specs.declared.declarations.NameAt.{NameAt}
 use Rattle.ostore_schema_layout.specs.declared.declarations.TypeDeclaration.{TypeDeclaration}
 use Rattle.ostore_schema_layout.specs.declared.declarations.MemberDeclaration.{MemberDeclaration}
-use Rattle.ostore_schema_layout.specs.DeclaredBy.{◌>>=◌, member_at, declared_type, type_name_at, is_type_line, declared_behind, declared_by}
+use Rattle.ostore_text_words.specs.LineWords.{◌>>=◌}
+use Rattle.ostore_schema_layout.specs.DeclaredBy.{member_at, declared_type, type_name_at, is_type_line, declared_behind, declared_by}
 use Rattle.ostore_schema_layout.proofs.spelled.Declared.{spelled_kind, spelled_member, spelled_types, IsNamedMember, AreNamed, unplaced_name, unplaced_member, unplaced}
-use Rattle.ostore_schema_layout.proofs.spelled.DeclaredWords.{bind_ok, same_ok, chosen, bare_at, bare_from_first, type_line, member_line}
+use Rattle.ostore_text_words.proofs.LineWordLaws.{bind_again, bind_ok, same_ok, chosen, bare_at, bare_from_first}
+use Rattle.ostore_schema_layout.proofs.spelled.DeclaredWords.{type_line, member_line}
 use Rattle.ostore_schema_layout.proofs.spelled.DeclaredKinds.{cons_are, member_taken, type_name_taken}
-use Rattle.ostore_schema_layout.proofs.spelled.DeclaredAgain.{bind_again, member_again, type_name_again}
+use Rattle.ostore_schema_layout.proofs.spelled.DeclaredAgain.{member_again, type_name_again}
 
 -- ---- read, and so spelled
 

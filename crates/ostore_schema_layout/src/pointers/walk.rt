@@ -5,7 +5,7 @@ ghost use Rattle.std.specs.List.{slice_get};
 ghost use Rattle.ostore_schema_layout.specs.Cells.{HasCode, pointers_of, sizes, type_pointers};
 ghost use Rattle.ostore_schema_layout.specs.Limits.{largest_cell};
 ghost use Rattle.ostore_schema_layout.specs.Lawful.{IsLawful};
-ghost use Rattle.ostore_schema_layout.specs.inside.PointersLeft.{member_pointers, pointer_found, pointers_from};
+ghost use Rattle.ostore_schema_layout.specs.inside.PointersLeft.{found_pointers, member_pointers, pointer_found, pointers_from};
 
 use super::{DESCRIPTOR, FIRST_CHUNK, FIRST_CHUNK_AT, SET_DESCRIPTOR_AT, chunk_form};
 use crate::cells::kind_size;
@@ -126,7 +126,7 @@ struct Found<'a> {
 /// The pointers of the first member that has any. The first member begins at a place.
 fn next_member(at: u16, members: &[MemberDef]) -> Option<Found<'_>>
     requires { at + sizes members.now ≤ largest_cell }
-    ensures found { MatchOption result (member_pointers at members.now ≡ []) (λ found. member_pointers at members.now ≡ found.place ∷ (pointer_found found.second ++ member_pointers found.at found.members.now)) }
+    ensures found { member_pointers at members.now ≡ found_pointers result }
     ensures room { IfSome result (λ found. found.at + sizes found.members.now ≤ largest_cell) }
 {
     let mut at = at;

@@ -2,7 +2,7 @@
 
 ghost use Rattle.std.specs.Prelude.{◌≡◌, ◌≤◌, [], ◌++◌, nat_lt, option_map};
 ghost use Rattle.ostore_schema_layout.specs.Limits.{largest_cell};
-ghost use Rattle.ostore_schema_layout.specs.Faults.{type_named as type_named_in, member_named as member_named_in, inverse_named as inverse_named_of, target_named as target_named_of, is_found_side_of, is_side_of as is_side_for, members_found, is_inverse as is_inverse_of, names_this as names_this_of, names_back as names_back_to, declared_sizes, target_faults, inverse_faults, member_faults, members_faults, name_faults, types_faults, faults_of, first_of};
+ghost use Rattle.ostore_schema_layout.specs.Faults.{type_named as type_named_in, member_named as member_named_in, inverse_named as inverse_named_of, target_named as target_named_of, is_found_side_of, other_member, type_faults, is_side_of as is_side_for, members_found, is_inverse as is_inverse_of, names_this as names_this_of, names_back as names_back_to, declared_sizes, target_faults, inverse_faults, member_faults, members_faults, name_faults, types_faults, faults_of, first_of};
 
 use crate::cells::kind_size;
 use crate::declarations::{
@@ -48,7 +48,8 @@ fn names_this(inverse: &InverseDeclaration, ty: &[u8], member: &[u8]) -> bool
 
 /// Whether there is an inverse, and it is named `TYPE.MEMBER`.
 fn names_back(inverse: Option<&InverseDeclaration>, ty: &[u8], member: &[u8]) -> bool
-    ensures { result ≡ names_back_to (option_map (λ inverse. inverse.now) inverse.entry) ty.now member.now }
+    ensures { let named = option_map (λ inverse. inverse.now) inverse.entry in
+        result ≡ names_back_to named ty.now member.now }
 {
     match inverse {
         Some(inverse) => names_this(inverse, ty, member),
@@ -79,7 +80,7 @@ fn is_found_side(
     ty: &[u8],
     member: &[u8],
 ) -> bool
-    ensures { result ≡ is_found_side_of (member_named_in (members_found (type_named_in types.now inverse.now.ty)) inverse.now.member) ty.now member.now }
+    ensures { result ≡ is_found_side_of (other_member types.now inverse.now) ty.now member.now }
 {
     let members = members_named(types, inverse.ty.bytes());
     match first_named(members, inverse.member.bytes()) {
@@ -187,7 +188,7 @@ fn type_fault(
     earlier: &[TypeDeclaration],
     ty: &TypeDeclaration,
 ) -> Option<SchemaFault>
-    ensures { result ≡ first_of (name_faults earlier.now ty.now ++ members_faults types.now ty.now.name.name [] ty.now.members) }
+    ensures { result ≡ first_of (type_faults types.now earlier.now ty.now) }
 {
     if let Some(fault) = name_fault(earlier, ty) {
         return Some(fault);

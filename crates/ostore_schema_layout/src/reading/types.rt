@@ -1,16 +1,19 @@
 //! The types that lines declare, with their members.
 
-ghost use Rattle.std.specs.Prelude.{◌≡◌, ◌<◌, length};
-ghost use Rattle.ostore_text_words.specs.Seen.{seen_line, seen_lines};
-ghost use Rattle.ostore_schema_layout.specs.DeclaredBy.{is_type_line, type_name_at, declared_by};
-ghost use Rattle.ostore_schema_layout.specs.inside.Gives.{Gives, GivesMembers, GivesType};
+ghost use Rattle.std.specs.Prelude.{◌≡◌, IsTrue};
+ghost use Rattle.ostore_text_words.specs.Gives.{GivesSame, GivesTaken};
+ghost use Rattle.ostore_text_words.specs.Lines.{has_line};
+ghost use Rattle.ostore_text_words.specs.Seen.{seen_line};
+ghost use Rattle.ostore_schema_layout.specs.DeclaredBy.{is_type_line, member_at, type_name_at, declared_by};
+ghost use Rattle.ostore_schema_layout.specs.inside.Gives.{has_member, GivesMembers, GivesType};
 
-use crate::declarations::{MemberDeclarations, NameAt, TypeDeclaration, TypeDeclarations};
-use crate::fault::SchemaFault;
+use crate::declarations::{
+    MemberDeclaration, MemberDeclarations, NameAt, TypeDeclaration, TypeDeclarations,
+};
 use crate::reading::members::member;
-use crate::reading::words::{ended, keyword, name};
+use crate::reading::words::name;
 use ostore_base::ListOf;
-use ostore_text_words::Line;
+use ostore_text_words::{Line, LineReader, TextFault};
 use std::alloc::Global;
 
 /// Whether the line is a type's.
@@ -23,51 +26,78 @@ fn is_type_line(line: &Line) -> bool
     }
 }
 
+/// Whether the next line is a member's.
+fn has_member(lines: &LineReader) -> bool
+    ensures { result ≡ has_member lines.now.lines }
+{
+    match lines.next_line() {
+        Some(line) => !is_type_line(line),
+        None => false,
+    }
+}
+
 /// The name of a line `type NAME`.
 #[tactic(auto, unfolding(crate::specs::DeclaredBy::type_name_at))]
-fn type_name(alloc: Global, line: &Line) -> Result<NameAt, SchemaFault>
-    ensures { Gives (λ name. name) result (type_name_at (seen_line line.now)) }
+fn type_name(alloc: Global, line: &Line) -> Result<NameAt, TextFault>
+    ensures { GivesSame result (type_name_at (seen_line line.now)) }
 {
-    keyword(line, b"type", 0)?;
+    line.keyword(b"type", 0)?;
     let name = name(alloc, line, 1)?;
-    ended(line, 2)?;
+    line.ended(2)?;
     Ok(name)
 }
 
-/// The members up to the next type's line, and how many lines they are.
-fn read_members(alloc: Global, lines: &[Line]) -> Result<(MemberDeclarations, usize), SchemaFault>
-    ensures { GivesMembers lines.now result }
+/// Takes a line `type NAME`.
+fn take_type_name(alloc: Global, lines: &mut LineReader) -> Result<NameAt, TextFault>
+    ensures { GivesTaken type_name_at lines.old lines.new result }
 {
-    let mut members = ListOf::new(alloc);
-    for (i, line) in lines.iter().enumerate() {
-        if is_type_line(line) {
-            return Ok((members, i));
-        }
-        members.push(member(alloc, line)?)?;
-    }
-    Ok((members, lines.len()))
+    let name = type_name(alloc, lines.line()?)?;
+    lines.advance()?;
+    Ok(name)
 }
 
-/// The type at the front of the lines, and how many lines it is.
-fn read_type(alloc: Global, lines: &[Line]) -> Result<(TypeDeclaration, usize), SchemaFault>
-    requires { 0 < length lines.now }
-    ensures { GivesType lines.now result }
+/// Takes a member's line.
+fn take_member(alloc: Global, lines: &mut LineReader) -> Result<MemberDeclaration, TextFault>
+    ensures { GivesTaken member_at lines.old lines.new result }
 {
-    let name = type_name(alloc, &lines[0])?;
-    let (members, count) = read_members(alloc, &lines[1..])?;
-    Ok((TypeDeclaration { name, members }, 1 + count))
+    let member = member(alloc, lines.line()?)?;
+    lines.advance()?;
+    Ok(member)
+}
+
+/// The members up to the next type's line.
+fn read_members(alloc: Global, lines: &mut LineReader) -> Result<MemberDeclarations, TextFault>
+    ensures { GivesMembers lines.old lines.new result }
+{
+    let mut members = ListOf::new(alloc);
+    while has_member(lines) {
+        let member = take_member(alloc, lines)?;
+        members.push(member)?;
+    }
+    Ok(members)
+}
+
+/// The type at the front of the lines.
+fn read_type(alloc: Global, lines: &mut LineReader) -> Result<TypeDeclaration, TextFault>
+    requires { IsTrue (has_line lines.old.lines) }
+    ensures { GivesType lines.old lines.new result }
+{
+    let name = take_type_name(alloc, lines)?;
+    let members = read_members(alloc, lines)?;
+    Ok(TypeDeclaration { name, members })
 }
 
 /// The types that the lines declare, to their end. The first line is a type's.
-pub(super) fn read_types(alloc: Global, lines: &[Line]) -> Result<TypeDeclarations, SchemaFault>
-    ensures { Gives (λ types. types) result (declared_by (seen_lines lines.now)) }
+pub(super) fn read_types(
+    alloc: Global,
+    lines: &mut LineReader,
+) -> Result<TypeDeclarations, TextFault>
+    ensures { GivesSame result (declared_by lines.old.lines) }
 {
     let mut types = ListOf::new(alloc);
-    let mut at = 0;
-    while at < lines.len() {
-        let (ty, count) = read_type(alloc, &lines[at..])?;
+    while lines.has_line() {
+        let ty = read_type(alloc, lines)?;
         types.push(ty)?;
-        at += count;
     }
     Ok(types)
 }
