@@ -12,4 +12,4 @@ pub use commands::{Command, Commands, Idents, Key, Op, Operand, Script, Txn, Txn
 pub use history::{Committed, Entry};
 pub use laws::names_are_ordered;
 pub use refusal::Refusal;
-pub use values::{Listed, Name, Names, Replies, Reply, Value};
+pub use values::{Listed, Name, Names, Replies, Reply, Scalar, Value};
