@@ -8,4 +8,7 @@ pub mod Paths
 pub mod Deeds
 pub mod Step
 pub mod Transaction
+pub mod LawsOfSteps
 pub mod History
+pub mod Growth
+pub mod Examples
