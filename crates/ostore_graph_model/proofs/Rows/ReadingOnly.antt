@@ -26,8 +26,7 @@ abbrev s1 : Stepped
 s1 = record start { reply = Refused refusals.ReadOnly }
 
 step1 : step chained false start.vars start.graph (line.New (codes "p") (codes "Part") 1) ≡ s1
-unfolding place_named
-step1 = simp computes refl
+step1 = refl
 
 abbrev s2 : Stepped
 s2 = record s1 { reply = Refused refusals.NoVariable }
@@ -40,8 +39,7 @@ abbrev s3 : Stepped
 s3 = record s2 { reply = Refused refusals.ReadOnly }
 
 step3 : step chained false s2.vars s2.graph (line.Set (codes "p") (codes "id") (operands.Var (codes "q"))) ≡ s3
-unfolding place_named
-step3 = simp computes refl
+step3 = refl
 
 pub reading_only : ReadingOnly
 reading_only =
