@@ -6,7 +6,7 @@ use Rattle.ostore_graph_model.specs.declared.commands.Txn.{Txn}
 use Rattle.ostore_graph_model.specs.declared.commands.Script.{Script}
 use Rattle.ostore_graph_model.specs.declared.history.Committed.{Committed}
 use Rattle.ostore_graph_model.specs.Graph.{Graph}
-use Rattle.ostore_graph_model.specs.Transaction.{transaction}
+use Rattle.ostore_graph_model.specs.Transaction.{Runs}
 
 -- the transaction that a client (from 0) and an ordinal (from 1) name in a script
 abbrev pub txn_at : Script → ℕ → ℕ → Option Txn
@@ -32,7 +32,7 @@ pub record IsRight (script : Script) (first last : ℕ) (graphs : ℕ → Graph)
   pub kind : one.entry.update ≡ txn.update
   pub from : first ≤ one.number
   pub to : one.number ≤ last
-  pub gives : transaction script.schema txn (graphs (number_before txn.update one.number)) ≡ Some (record { replies = one.entry.replies; graph = graphs one.number })
+  pub gives : Runs script.schema txn (graphs (number_before txn.update one.number)) one.entry.replies (graphs one.number)
 
 -- of two transactions of one client the later one has the greater ordinal, and no smaller number
 abbrev pub InOrder : Committed → Committed → Type 0
@@ -50,11 +50,11 @@ pub record IsLegalHistory (script : Script) (first : ℕ) (graph : Graph) (commi
   pub right : All (IsRight script first (first + length (updates committed)) graphs) committed
   pub order : AllPairs InOrder committed
 
--- a transaction of the script stands among those that committed
-abbrev pub Stands : ℕ → ℕ → List Committed → Type 0
-Stands client ordinal committed = Any (λ one. (one.entry.client.0 ≡ client) × (one.entry.ordinal ≡ ordinal)) committed
+-- a transaction of the script has committed
+abbrev pub HasCommitted : ℕ → ℕ → List Committed → Type 0
+HasCommitted client ordinal committed = Any (λ one. (one.entry.client.0 ≡ client) × (one.entry.ordinal ≡ ordinal)) committed
 
--- every transaction of the script that doesn't abort stands among those that committed
-abbrev pub EveryoneStands : Script → List Committed → Type 0
-EveryoneStands script committed =
-    (client ordinal : ℕ) (txn : Txn) → txn_at script client ordinal ≡ Some txn → txn.aborts ≡ false → Stands client ordinal committed
+-- every transaction of the script that doesn't abort has committed
+abbrev pub AllCommitted : Script → List Committed → Type 0
+AllCommitted script committed =
+    (client ordinal : ℕ) (txn : Txn) → txn_at script client ordinal ≡ Some txn → txn.aborts ≡ false → HasCommitted client ordinal committed

@@ -1,6 +1,14 @@
 pub mod Refusals
 pub mod Orders
+pub mod Sets
 pub mod Graph
+pub mod Kinds
+pub mod Links
+pub mod Paths
+pub mod Deeds
 pub mod Step
 pub mod Transaction
+pub mod LawsOfSteps
 pub mod History
+pub mod Growth
+pub mod Examples

@@ -26,37 +26,38 @@ key_cmp (keys.Text a) (keys.Int b) = Greater
 key_cmp (keys.Text a) (keys.Text b) = text_cmp a b
 
 -- a member of a type
-pub record Side : Type 0 where
+pub record TypeMember : Type 0 where
   pub ty : TypeNo
   pub member : MemberNo
 
 abbrev pub member_cmp : MemberNo → MemberNo → Ordering
 member_cmp a b = nat_cmp a.0 b.0
 
-abbrev pub side_cmp : Side → Side → Ordering
-side_cmp a b = ordering_then (nat_cmp a.ty.0 b.ty.0) (member_cmp a.member b.member)
+abbrev pub type_member_cmp : TypeMember → TypeMember → Ordering
+type_member_cmp a b = ordering_then (nat_cmp a.ty.0 b.ty.0) (member_cmp a.member b.member)
 
--- two objects that a link joins; the link goes by its first side, or its only one
+-- Two objects that a link joins. The link goes by the member at its first side, or at its only one, and the first
+-- of the two objects is the one on that side.
 pub record Pair : Type 0 where
-  pub link : Side
+  pub link : TypeMember
   pub first : Name
   pub second : Name
 
 abbrev pub pair_cmp : Pair → Pair → Ordering
-pair_cmp a b = ordering_then (side_cmp a.link b.link) (ordering_then (name_cmp a.first b.first) (name_cmp a.second b.second))
+pair_cmp a b = ordering_then (type_member_cmp a.link b.link) (ordering_then (name_cmp a.first b.first) (name_cmp a.second b.second))
 
--- a member of one object
-pub record Place : Type 0 where
+-- the member of one object
+pub record ObjectMember : Type 0 where
   pub object : Name
   pub member : MemberNo
 
-abbrev pub place_cmp : Place → Place → Ordering
-place_cmp a b = ordering_then (name_cmp a.object b.object) (member_cmp a.member b.member)
+abbrev pub object_member_cmp : ObjectMember → ObjectMember → Ordering
+object_member_cmp a b = ordering_then (name_cmp a.object b.object) (member_cmp a.member b.member)
 
 -- a declared index: the set that it is on, and the members of its path
 pub record PathIndex : Type 0 where
-  pub set : Place
+  pub set : ObjectMember
   pub path : List MemberNo
 
 abbrev pub index_cmp : PathIndex → PathIndex → Ordering
-index_cmp a b = ordering_then (place_cmp a.set b.set) (slice_cmp member_cmp a.path b.path)
+index_cmp a b = ordering_then (object_member_cmp a.set b.set) (slice_cmp member_cmp a.path b.path)

@@ -11,6 +11,13 @@ pub struct Name {
     pub serial: u32,
 }
 
+/// What an int or a text member of an object holds.
+#[derive(Debug, Drop)]
+pub enum Scalar {
+    Int(i64),
+    Text(Text),
+}
+
 /// The value of a member, as it is shown.
 #[derive(Debug, Drop)]
 pub enum Value {

@@ -1,0 +1,6 @@
+pub mod OrderLaws
+pub mod KeyLaws
+pub mod StepLaws
+pub mod GrowthLaws
+pub mod Computing
+pub mod Rows
