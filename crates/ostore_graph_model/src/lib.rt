@@ -5,11 +5,22 @@
 mod commands;
 mod history;
 mod laws;
+mod laws_of_cells;
+mod laws_of_pages;
 mod refusal;
 mod values;
 
 pub use commands::{Command, Commands, Idents, Key, Op, Operand, Script, Txn, TxnLists, Txns};
 pub use history::{Committed, Entry};
 pub use laws::names_are_ordered;
+pub use laws_of_cells::{
+    cells_are_sized, held_image_tells_cells, one_cell_is_added, one_cell_is_dead,
+    one_cell_is_edited, pointers_lead_to_pages,
+};
+pub use laws_of_pages::{
+    collection_is_changed, graph_is_one, graph_is_there, int_is_written, list_is_changed,
+    no_index_is_wrong, object_is_made, page_is_taken, reference_is_written, root_is_bound,
+    root_is_unbound, same_is_read, text_is_written,
+};
 pub use refusal::Refusal;
 pub use values::{Listed, Name, Names, Replies, Reply, Scalar, Value};

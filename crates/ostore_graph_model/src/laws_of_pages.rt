@@ -1,0 +1,77 @@
+//! Laws of what pages mean, each the contract of a function that does nothing. A caller who needs a law
+//! calls its function.
+
+ghost use Rattle.ostore_graph_model.specs.LawsOfMeaning.{LawOfOneGraph, LawOfSomeGraph, LawOfNoIndexes};
+ghost use Rattle.ostore_graph_model.specs.LawsOfMeaning.{LawOfInts, LawOfTexts, LawOfReferences, LawOfNewObjects};
+ghost use Rattle.ostore_graph_model.specs.LawsOfMeaning.{LawOfTakenPages, LawOfSameReading};
+ghost use Rattle.ostore_graph_model.specs.LawsOfMeaning.{LawOfBoundRoots, LawOfUnboundRoots};
+ghost use Rattle.ostore_graph_model.specs.Collections.{LawOfCollections, LawOfLists};
+
+/// Pages stand for one graph at most.
+pub fn graph_is_one()
+    ensures { LawOfOneGraph }
+{}
+
+/// Pages whose cells are good stand for a graph; so valid pages stand for one.
+pub fn graph_is_there()
+    ensures { LawOfSomeGraph }
+{}
+
+/// Where no index is declared, the rules on pages, cells and links are all that valid pages want.
+pub fn no_index_is_wrong()
+    ensures { LawOfNoIndexes }
+{}
+
+/// An int that is written into a live object leaves good pages, which stand for what `set` makes of the
+/// graph.
+pub fn int_is_written()
+    ensures { LawOfInts }
+{}
+
+/// A text that is written into a live object does so too.
+pub fn text_is_written()
+    ensures { LawOfTexts }
+{}
+
+/// A one-sided reference that is written into a live object leaves good pages, which stand for the graph in
+/// which the object is joined with what it leads to, and with nothing else.
+pub fn reference_is_written()
+    ensures { LawOfReferences }
+{}
+
+/// A serial that is drawn and a cell of zeros with it leave good pages, which stand for what `new` makes of
+/// the graph.
+pub fn object_is_made()
+    ensures { LawOfNewObjects }
+{}
+
+/// A root that is bound to an object's row is bound to its name, and the other roots stay.
+pub fn root_is_bound()
+    ensures { LawOfBoundRoots }
+{}
+
+/// A root that is unbound is gone, and the other roots stay.
+pub fn root_is_unbound()
+    ensures { LawOfUnboundRoots }
+{}
+
+/// A collection that is changed as a whole, and is as it should be then, leaves a good heap: rules 7 to 10 hold
+/// again, but for the bytes of single cells.
+pub fn collection_is_changed()
+    ensures { LawOfCollections }
+{}
+
+/// A list that is changed as a whole is the graph's list at its member, and the other lists stay.
+pub fn list_is_changed()
+    ensures { LawOfLists }
+{}
+
+/// A page that is taken from the free list changes nothing of the graph.
+pub fn page_is_taken()
+    ensures { LawOfTakenPages }
+{}
+
+/// Lists of pages from which the same is read mean the same.
+pub fn same_is_read()
+    ensures { LawOfSameReading }
+{}
