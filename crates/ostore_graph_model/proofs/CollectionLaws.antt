@@ -42,13 +42,13 @@ module _ (schema : Schema) (heap now : Heap) (address member : ℕ) (tag : RowTa
   }
 
   -- an object isn't a chunk of the chain
-  object_away : (other : ℕ) (also : RowTag) (links : Links) → now other ≡ Some (live_cell also links) → is_type_code also.code ≡ true → IsIn other after → ⊥
+  pub object_away : (other : ℕ) (also : RowTag) (links : Links) → now other ≡ Some (live_cell also links) → is_type_code also.code ≡ true → IsIn other after → ⊥
   object_away other also links there typed inside =
       let cell = in_chain now (chunk_code def.kind) tag.segment is.first after other change.relinked inside in
       let tags : also ≡ chunk_tag (chunk_code def.kind) tag.segment = ap (λ (c : HeapCell). c.tag) (same_Some _ _ (sym there ∙ cell.1)) in
       true≢false (sym typed ∙ ap (λ (t : RowTag). is_type_code t.code) tags ∙ chunk_code-IsNoType def.kind)
 
-  object_was_away : (other : ℕ) (also : RowTag) (links : Links) → heap other ≡ Some (live_cell also links) → is_type_code also.code ≡ true → IsIn other after → ⊥
+  pub object_was_away : (other : ℕ) (also : RowTag) (links : Links) → heap other ≡ Some (live_cell also links) → is_type_code also.code ≡ true → IsIn other after → ⊥
   object_was_away other also links there typed inside = elim (change.adds other inside) [
     | inl old ↦
         let cell = in_chain heap (chunk_code def.kind) tag.segment was.first chain other change.linked old in

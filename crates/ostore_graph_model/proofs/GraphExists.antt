@@ -138,7 +138,7 @@ name_of_row heap pointer code there = found (heap pointer) there
     found None e = absurd (none-some code e)
     found (Some cell) e = (name_in cell.tag, refl)
 
-names_of : (heap : Heap) (code : ℕ) (entries : List ChunkEntry) → All (λ entry. code_at heap entry.item ≡ Some code) entries → (names : List Name) × (map (λ (entry : ChunkEntry). name_at heap entry.item) entries ≡ map (λ (n : Name). Some n) names)
+pub names_of : (heap : Heap) (code : ℕ) (entries : List ChunkEntry) → All (λ entry. code_at heap entry.item ≡ Some code) entries → (names : List Name) × (map (λ (entry : ChunkEntry). name_at heap entry.item) entries ≡ map (λ (n : Name). Some n) names)
 names_of heap code [] all = ([], refl)
 names_of heap code (entry ∷ entries) all =
     let here = name_of_row heap entry.item code (all 0 entry (omega arith)) in
@@ -160,7 +160,7 @@ same_names (x ∷ xs) (y ∷ ys) e =
     cons_head : (a b : Option Name) (as_ bs : List (Option Name)) → a ∷ as_ ≡ b ∷ bs → a ≡ b
     cons_head a b as_ bs h = cc
 
-nil_or_not : (entries : List ChunkEntry) → (entries ≡ []) ⊎ (entries ≢ [])
+pub nil_or_not : (entries : List ChunkEntry) → (entries ≡ []) ⊎ (entries ≢ [])
 nil_or_not [] = inl refl
 nil_or_not (entry ∷ entries) = inr (λ e. cc)
 
@@ -383,7 +383,7 @@ module _ (schema : Schema) (heap : Heap) (count : ℕ) (bounded : (address : ℕ
           back k n e f = ap (option_and_then (with_name n)) e ∙ ap (λ (o : Option Name). with_name o key) f
 
       -- the entries of a chain with distinct keys make a dictionary
-      dictionary_of : (entries : List ChunkEntry) → ArePairwise (λ (earlier later : ChunkEntry). earlier.key ≢ later.key) entries → (dictionary : maps.FinMap key_cmp Name) × ((key : Key) (name : Name) → (maps.get dictionary key ≡ Some name) ↔ Any (Binds heap key name) entries)
+      pub dictionary_of : (entries : List ChunkEntry) → ArePairwise (λ (earlier later : ChunkEntry). earlier.key ≢ later.key) entries → (dictionary : maps.FinMap key_cmp Name) × ((key : Key) (name : Name) → (maps.get dictionary key ≡ Some name) ↔ Any (Binds heap key name) entries)
       dictionary_of entries apart = finite_map key_cmp-IsTotalOrder key_cmp-IsAntisymmetric (λ key name. Any (Binds heap key name) entries)
           (finite_iff (λ (e : Key × Name). (entry : ChunkEntry) × Contains entries entry × (binding entry ≡ Some e)) (λ (e : Key × Name). Any (Binds heap e.0 e.1) entries)
           (λ e. (λ h. (h.1.0, h.0, h.1.1, h.1.2, (binding_is e.0 e.1 h.0).0 h.2), λ h. (h.1, (h.0, h.2, h.3), (binding_is e.0 e.1 h.1).1 h.4)))

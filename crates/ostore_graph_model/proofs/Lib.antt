@@ -34,3 +34,9 @@ pub mod TextLaw
 pub mod CellFacts
 pub mod PointerFacts
 pub mod RootLaws
+pub mod CollectionFrames
+pub mod DictionaryLaws
+pub mod SetLaws
+pub mod CollectionGraphs
+pub mod AscentLaws
+pub mod FreshLaw

@@ -1,6 +1,6 @@
 -- A one-sided reference is written into an object: the pages stay valid, and stand for the graph in which the
 -- object is joined with what it leads to.
-use Rattle.std.proofs.Common.{◌≡◌, ◌≢◌, ℕ, ◌+◌, ◌^◌, ◌<◌, ◌≤◌, true, List, length, set, sym, ap, subst, subst₂, ◌∙◌, arith, Option, Some}
+use Rattle.std.proofs.Common.{◌≡◌, ◌≢◌, ℕ, ◌+◌, ◌^◌, ◌<◌, ◌≤◌, true, List, length, set, refl, sym, ap, subst, subst₂, ◌∙◌, arith, Option, Some}
 use Rattle.std.specs.Option.{option_map}
 use Rattle.std.proofs.lemmas.Option.{slice_get-map}
 use Rattle.ostore_base.specs.declared.page.PageImage.{PageImage}
@@ -20,11 +20,13 @@ use Rattle.ostore_graph_model.specs.Chains.{item_type}
 use Rattle.ostore_graph_model.specs.FixedPages.{roots_of, serial_of}
 use Rattle.ostore_graph_model.specs.Heap.{tag_at, code_at, name_in, name_at, live_cell}
 use Rattle.ostore_graph_model.specs.HeapRules.{LeadsToChunk, KeepsSerials, KeepsRoots}
-use Rattle.ostore_graph_model.specs.LawsOfMeaning.{HoldGraph, LeavesGraph, joined_alone, LawOfReferences}
+use Rattle.ostore_graph_model.specs.LawsOfMeaning.{HoldGraph, LeavesGraph, parted_from, joined_alone, LawOfReferences, LawOfNullReferences}
 use Rattle.ostore_graph_model.specs.MemberValues.{value_of, value_in, values_of}
 use Rattle.ostore_graph_model.specs.PageEdits.{name_of, side_of, WritesRef}
 use Rattle.ostore_graph_model.specs.Records.{pointer_at, Slot, slot_of, slot_in, Links, HeapCell, tag_of, heap_cell, heap_of, is_sized}
-use Rattle.ostore_graph_model.specs.StandsFor.{StandsFor, ShowsObjects, ShowsRoots, ShowsSerials}
+use Rattle.std.specs.FinSet as sets
+use Rattle.ostore_graph_model.specs.Orders.{pair_cmp}
+use Rattle.ostore_graph_model.specs.StandsFor.{StandsFor, ShowsObjects, ShowsPairs, ShowsRoots, ShowsSerials}
 use Rattle.ostore_graph_model.proofs.EditLaws.{same_roots, same_serials, pages_edited}
 use Rattle.ostore_graph_model.proofs.MemberLaws.{IsWithin}
 use Rattle.ostore_graph_model.proofs.RecordLaws.{EditsMember, other_links, values_stay}
@@ -32,7 +34,7 @@ use Rattle.ostore_graph_model.proofs.ObjectLaws.{names_own}
 use Rattle.ostore_graph_model.proofs.MemberEdits.{cell_sized, place_kind, slots_in, place_within, object_here, links_now, written_edited}
 use Rattle.ostore_graph_model.proofs.HeapLaws.{ChangesObject, chains_kept, owners_kept, items_kept, pointers_kept, links_kept}
 use Rattle.ostore_graph_model.proofs.ShownLaws.{lists_kept, dictionaries_kept, indexes_kept, roots_kept, good_roots}
-use Rattle.ostore_graph_model.proofs.ReferenceLaws.{ChangesReference, tags_stay, codes_by_tags, names_by_tags, reference_changes, objects_stay, pairs_joined}
+use Rattle.ostore_graph_model.proofs.ReferenceLaws.{ChangesReference, tags_stay, codes_by_tags, names_by_tags, reference_changes, objects_stay, pairs_joined, pairs_parted}
 
 -- ---- the bytes of a reference
 
@@ -106,10 +108,8 @@ module _ (schema : Schema) (old new : List PageImage) (address member : ℕ) (ce
     names : (other code : ℕ) → code_at (heap_of schema old) other ≡ Some code → name_at (heap_of schema new) other ≡ name_at (heap_of schema old) other
     names other code there = names_by_tags (heap_of schema old) (heap_of schema new) tags other
 
-    ref_stands : (to : PlacedCell) → pointer ≢ 0 → cell_at old pointer ≡ Some to
-        → StandsFor schema new (record graph { pairs = joined_alone graph.pairs (side_of cell member) (name_of cell) (name_of to) })
-    unfolding heap_of
-    ref_stands to some there =
+    ref_stands : (pairs : sets.FinSet pair_cmp) → ShowsPairs schema (heap_of schema new) pairs → StandsFor schema new (record graph { pairs = pairs })
+    ref_stands pairs shown =
         let heap = heap_of schema old in
         let now = heap_of schema new in
         let cells = holds.cells_kept in
@@ -117,9 +117,7 @@ module _ (schema : Schema) (old new : List PageImage) (address member : ℕ) (ce
         record {
           objects = subst (λ values. ShowsObjects now values graph.objects) (sym same_values)
               (objects_stay schema heap now address member (tag_of cell) (slots_in schema cell) write.def pointer change (values_of schema old) graph.objects stands.objects);
-          pairs = pairs_joined schema heap now address member (tag_of cell) (slots_in schema cell) write.def pointer change (name_of to) some
-              (ap (λ (c : Option PlacedCell). option_map name_in (option_map (λ (l : HeapCell). l.tag) (option_map (heap_cell schema) c))) there)
-              (names_own heap (serial_of old) cells.serials) graph.pairs stands.pairs;
+          pairs = shown;
           lists = lists_kept schema heap now address object names cells.pointers cells.items graph.lists stands.lists;
           dictionaries = dictionaries_kept schema heap now address object names cells.pointers cells.items graph.dictionaries stands.dictionaries;
           roots = subst (λ rows. ShowsRoots now rows graph.roots) (sym (same_roots old new address bytes write.edits cell write.has.there))
@@ -128,9 +126,8 @@ module _ (schema : Schema) (old new : List PageImage) (address member : ℕ) (ce
           indexes = indexes_kept schema heap now address object names cells.pointers cells.items graph.indexes stands.indexes;
         }
 
-    pub ref_leaves : (to : PlacedCell) → pointer ≢ 0 → cell_at old pointer ≡ Some to
-        → LeavesGraph schema old new (record graph { pairs = joined_alone graph.pairs (side_of cell member) (name_of cell) (name_of to) })
-    ref_leaves to some there =
+    pub ref_leaves : (pairs : sets.FinSet pair_cmp) → ShowsPairs schema (heap_of schema new) pairs → LeavesGraph schema old new (record graph { pairs = pairs })
+    ref_leaves pairs shown =
         let heap = heap_of schema old in
         let now = heap_of schema new in
         let cells = holds.cells_kept in
@@ -147,14 +144,36 @@ module _ (schema : Schema) (old new : List PageImage) (address member : ℕ) (ce
               owners = owners_kept schema heap now address object cells.owners;
               items = items_kept schema heap now address object cells.items;
             };
-            stands = ref_stands to some there;
+            stands = ref_stands pairs shown;
           };
           links_kept = λ good. links_kept schema heap now address object good;
         }
+
+    -- it leads to a row
+    pub ref_joined : (to : PlacedCell) → pointer ≢ 0 → cell_at old pointer ≡ Some to
+        → LeavesGraph schema old new (record graph { pairs = joined_alone graph.pairs (side_of cell member) (name_of cell) (name_of to) })
+    unfolding heap_of
+    ref_joined to some there =
+        ref_leaves (joined_alone graph.pairs (side_of cell member) (name_of cell) (name_of to))
+        (pairs_joined schema (heap_of schema old) (heap_of schema new) address member (tag_of cell) (slots_in schema cell) write.def pointer change (name_of to) some
+        (ap (λ (c : Option PlacedCell). option_map name_in (option_map (λ (l : HeapCell). l.tag) (option_map (heap_cell schema) c))) there)
+        (names_own (heap_of schema old) (serial_of old) holds.cells_kept.serials) graph.pairs holds.stands.pairs)
+
+    -- or nowhere
+    pub ref_parted : pointer ≡ 0 → LeavesGraph schema old new (record graph { pairs = parted_from graph.pairs (side_of cell member) (name_of cell) })
+    ref_parted none =
+        ref_leaves (parted_from graph.pairs (side_of cell member) (name_of cell))
+        (pairs_parted schema (heap_of schema old) (heap_of schema new) address member (tag_of cell) (slots_in schema cell) write.def pointer change none
+        (names_own (heap_of schema old) (serial_of old) holds.cells_kept.serials) graph.pairs holds.stands.pairs)
 
 pub ref_law : LawOfReferences
 unfolding heap_of
 ref_law schema old new address member cell place target pointer to graph holds write some there code =
     let sized = cell_sized schema old address cell holds.cells_kept write.has.there in
     let leads : LeadsToChunk (heap_of schema old) target.0 pointer = λ e. ap (λ (c : Option PlacedCell). option_map (λ (l : HeapCell). l.tag.code) (option_map (heap_cell schema) c)) there ∙ ap Some code in
-    ref_leaves schema old new address member cell place target pointer write sized graph holds leads to some there
+    ref_joined schema old new address member cell place target pointer write sized graph holds leads to some there
+
+pub null_law : LawOfNullReferences
+null_law schema old new address member cell place target graph holds write =
+    let sized = cell_sized schema old address cell holds.cells_kept write.has.there in
+    ref_parted schema old new address member cell place target 0 write sized graph holds (λ some. absurd (some refl)) refl

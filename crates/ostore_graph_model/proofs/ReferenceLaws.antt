@@ -21,7 +21,7 @@ use Rattle.ostore_graph_model.specs.Graph.{Object}
 use Rattle.ostore_graph_model.specs.Chains.{item_type, LeadsTo}
 use Rattle.ostore_graph_model.specs.Heap.{Heap, tag_at, code_at, name_at, name_in, live_cell, IsObject, HasMember}
 use Rattle.ostore_graph_model.specs.HeapRules.{LeadsToChunk, HasGoodPointers, KeepsPointers}
-use Rattle.ostore_graph_model.specs.LawsOfMeaning.{is_from, joined_alone}
+use Rattle.ostore_graph_model.specs.LawsOfMeaning.{is_from, parted_from, joined_alone}
 use Rattle.ostore_graph_model.specs.Records.{Slot, Links, RowTag, HeapCell}
 use Rattle.ostore_graph_model.specs.Sides.{comes_first, IsLink}
 use Rattle.ostore_graph_model.specs.StandsFor.{Joins, HasPair, HasObject, ShowsObjects, ShowsPairs}
@@ -194,6 +194,99 @@ module _ (schema : Schema) (heap now : Heap) (address member : ℕ) (tag : RowTa
   is_from_side x pair link first =
       and_from _ _ (same_tied side_cmp-IsTotalOrder pair.link (record { ty = record { 0 = tag.code }; member = record { 0 = member } }) link) (same_tied name_cmp-IsTotalOrder pair.first x first)
 
+  before_code : (code : ℕ) → code_at heap address ≡ Some code → is_type_code code ≡ true
+  before_code = typed_code heap slots change.was.there
+
+  after_code : (code : ℕ) → code_at now address ≡ Some code → is_type_code code ≡ true
+  after_code = typed_code now (set slots member (Slot.Refers pointer)) change.is
+
+  joins_with : (link : Side) (x z : Name) (j : Joins schema heap link x z) → HasMember schema now j.address link.member.0 j.tag j.def j.slot → Joins schema now link x z
+  joins_with link x z j has = record {
+    address = j.address;
+    tag = j.tag;
+    def = j.def;
+    slot = j.slot;
+    has = has;
+    ty = j.ty;
+    from = j.from;
+    pointer = j.pointer;
+    leads = leads_kept heap now address change.others before_code j.tag.segment j.def.kind j.slot j.pointer j.leads;
+    to = names_by_tags heap now tags_stay j.pointer ∙ j.to;
+  }
+
+  joined_with : (link : Side) (x z : Name) (j : Joins schema now link x z) → HasMember schema heap j.address link.member.0 j.tag j.def j.slot → Joins schema heap link x z
+  joined_with link x z j has = record {
+    address = j.address;
+    tag = j.tag;
+    def = j.def;
+    slot = j.slot;
+    has = has;
+    ty = j.ty;
+    from = j.from;
+    pointer = j.pointer;
+    leads = leads_kept now heap address (λ a apart. sym (change.others a apart)) after_code j.tag.segment j.def.kind j.slot j.pointer j.leads;
+    to = sym (names_by_tags heap now tags_stay j.pointer) ∙ j.to;
+  }
+
+  old_pair : (pair : Pair) → not (is_from (record { ty = record { 0 = tag.code }; member = record { 0 = member } }) (name_in tag) pair) ≡ true → HasPair schema heap pair → HasPair schema now pair
+  old_pair pair free has =
+      let j = has.joins in
+      record {
+        link = has.link;
+        joins = elim (cases_eq j.address address) [
+          | inl same ↦ elim (member_was pair.link.member.0 j.tag j.def j.slot (subst (λ a. HasMember schema heap a pair.link.member.0 j.tag j.def j.slot) same j.has)) [
+            | inl here ↦
+                let tags = same_object heap j.address address j.tag tag j.has.slots slots same j.has.object change.was in
+                let link : pair.link ≡ record { ty = record { 0 = tag.code }; member = record { 0 = member } } = ap₂ (λ (t n : ℕ). record { ty = record { 0 = t }; member = record { 0 = n } }) (sym j.ty ∙ ap (λ (t : RowTag). t.code) tags) here.0 in
+                let first : pair.first ≡ name_in tag = sym j.from ∙ ap name_in tags in
+                absurd (true≢false (sym (is_from_side (name_in tag) pair link first) ∙ not-true _ free))
+            | inr stays ↦ joins_with pair.link pair.first pair.second j (subst (λ a. HasMember schema now a pair.link.member.0 j.tag j.def j.slot) (sym same) stays)
+          ]
+          | inr apart ↦ joins_with pair.link pair.first pair.second j (member_elsewhere schema heap now j.address pair.link.member.0 j.tag j.def j.slot (change.others j.address apart) j.has)
+        ];
+      }
+
+  -- a pair now is from the side of the object, which leads somewhere, or was there
+  back_pair : AreNamesOwn heap → (pair : Pair) → HasPair schema now pair
+      → ((pair.link ≡ record { ty = record { 0 = tag.code }; member = record { 0 = member } }) × (pair.first ≡ name_in tag) × (pointer ≢ 0) × (name_at now pointer ≡ Some pair.second)) ⊎ ((is_from (record { ty = record { 0 = tag.code }; member = record { 0 = member } }) (name_in tag) pair ≡ true → ⊥) × HasPair schema heap pair)
+  back_pair own pair has =
+      let j = has.joins in
+      elim (cases_eq j.address address) [
+        | inl same ↦ elim (member_now pair.link.member.0 j.tag j.def j.slot (subst (λ a. HasMember schema now a pair.link.member.0 j.tag j.def j.slot) same j.has)) [
+          | inl here ↦
+              let tags = same_object now j.address address j.tag tag j.has.slots (set slots member (Slot.Refers pointer)) same j.has.object stands_now in
+              let link : pair.link ≡ record { ty = record { 0 = tag.code }; member = record { 0 = member } } = ap₂ (λ (t n : ℕ). record { ty = record { 0 = t }; member = record { 0 = n } }) (sym j.ty ∙ ap (λ (t : RowTag). t.code) tags) here.0 in
+              let leads : (pointer ≡ j.pointer) × (j.pointer ≢ 0) = subst (λ s. LeadsTo now j.tag.segment j.def.kind s j.pointer) here.2 j.leads in
+              inl (link, sym j.from ∙ ap name_in tags, (λ none. leads.1 (sym leads.0 ∙ none)), ap (name_at now) leads.0 ∙ j.to)
+          | inr was ↦ inr (
+            λ e. was.0 (ap (λ (s : Side). s.member.0) (from_parts (name_in tag) pair e).0),
+            record { link = has.link; joins = joined_with pair.link pair.first pair.second j (subst (λ a. HasMember schema heap a pair.link.member.0 j.tag j.def j.slot) (sym same) was.1) },
+          )
+        ]
+        | inr apart ↦
+            let was = member_elsewhere schema now heap j.address pair.link.member.0 j.tag j.def j.slot (sym (change.others j.address apart)) j.has in
+            inr (
+              λ e. apart (named_object heap address j.address tag j.tag slots was.slots own change.was was.object (j.from ∙ (from_parts (name_in tag) pair e).1)),
+              record { link = has.link; joins = joined_with pair.link pair.first pair.second j was },
+            )
+      ]
+
+  -- the reference leads nowhere
+  module _ (none : pointer ≡ 0) (own : AreNamesOwn heap) (pairs : sets.FinSet pair_cmp) (shown : ShowsPairs schema heap pairs) where
+    left : (pair : Pair) → sets.contains (parted_from pairs (record { ty = record { 0 = tag.code }; member = record { 0 = member } }) (name_in tag)) pair ≡ (sets.contains pairs pair && not (is_from (record { ty = record { 0 = tag.code }; member = record { 0 = member } }) (name_in tag) pair))
+    left pair = sets.contains-retain pairs (λ p. not (is_from (record { ty = record { 0 = tag.code }; member = record { 0 = member } }) (name_in tag) p)) pair (λ p e. ap (λ q. not (is_from (record { ty = record { 0 = tag.code }; member = record { 0 = member } }) (name_in tag) q)) (sym (pair_cmp-IsAntisymmetric pair p e)))
+
+    pub pairs_parted : ShowsPairs schema now (parted_from pairs (record { ty = record { 0 = tag.code }; member = record { 0 = member } }) (name_in tag))
+    pairs_parted pair = (
+      λ e.
+          let parts = and_parts (sets.contains pairs pair) (not (is_from (record { ty = record { 0 = tag.code }; member = record { 0 = member } }) (name_in tag) pair)) (sym (left pair) ∙ e) in
+          old_pair pair parts.1 ((shown pair).0 parts.0),
+      λ has. elim (back_pair own pair has) [
+        | inl here ↦ absurd (here.2 none)
+        | inr was ↦ left pair ∙ and_from (sets.contains pairs pair) _ ((shown pair).1 was.1) (ap not (false_from_ne_true (is_from (record { ty = record { 0 = tag.code }; member = record { 0 = member } }) (name_in tag) pair) was.0))
+      ],
+    )
+
   module _ (y : Name) (some : pointer ≢ 0) (named : name_at heap pointer ≡ Some y) (own : AreNamesOwn heap) (pairs : sets.FinSet pair_cmp) (shown : ShowsPairs schema heap pairs) where
     abbrev the_pair : Pair
     the_pair = record { link = record { ty = record { 0 = tag.code }; member = record { 0 = member } }; first = name_in tag; second = y }
@@ -222,58 +315,6 @@ module _ (schema : Schema) (heap now : Heap) (address member : ℕ) (tag : RowTa
       };
     }
 
-    before_code : (code : ℕ) → code_at heap address ≡ Some code → is_type_code code ≡ true
-    before_code = typed_code heap slots change.was.there
-
-    after_code : (code : ℕ) → code_at now address ≡ Some code → is_type_code code ≡ true
-    after_code = typed_code now (set slots member (Slot.Refers pointer)) change.is
-
-    joins_with : (link : Side) (x z : Name) (j : Joins schema heap link x z) → HasMember schema now j.address link.member.0 j.tag j.def j.slot → Joins schema now link x z
-    joins_with link x z j has = record {
-      address = j.address;
-      tag = j.tag;
-      def = j.def;
-      slot = j.slot;
-      has = has;
-      ty = j.ty;
-      from = j.from;
-      pointer = j.pointer;
-      leads = leads_kept heap now address change.others before_code j.tag.segment j.def.kind j.slot j.pointer j.leads;
-      to = names_by_tags heap now tags_stay j.pointer ∙ j.to;
-    }
-
-    joined_with : (link : Side) (x z : Name) (j : Joins schema now link x z) → HasMember schema heap j.address link.member.0 j.tag j.def j.slot → Joins schema heap link x z
-    joined_with link x z j has = record {
-      address = j.address;
-      tag = j.tag;
-      def = j.def;
-      slot = j.slot;
-      has = has;
-      ty = j.ty;
-      from = j.from;
-      pointer = j.pointer;
-      leads = leads_kept now heap address (λ a apart. sym (change.others a apart)) after_code j.tag.segment j.def.kind j.slot j.pointer j.leads;
-      to = sym (names_by_tags heap now tags_stay j.pointer) ∙ j.to;
-    }
-
-    old_pair : (pair : Pair) → not (is_from (record { ty = record { 0 = tag.code }; member = record { 0 = member } }) (name_in tag) pair) ≡ true → HasPair schema heap pair → HasPair schema now pair
-    old_pair pair free has =
-        let j = has.joins in
-        record {
-          link = has.link;
-          joins = elim (cases_eq j.address address) [
-            | inl same ↦ elim (member_was pair.link.member.0 j.tag j.def j.slot (subst (λ a. HasMember schema heap a pair.link.member.0 j.tag j.def j.slot) same j.has)) [
-              | inl here ↦
-                  let tags = same_object heap j.address address j.tag tag j.has.slots slots same j.has.object change.was in
-                  let link : pair.link ≡ record { ty = record { 0 = tag.code }; member = record { 0 = member } } = ap₂ (λ (t n : ℕ). record { ty = record { 0 = t }; member = record { 0 = n } }) (sym j.ty ∙ ap (λ (t : RowTag). t.code) tags) here.0 in
-                  let first : pair.first ≡ name_in tag = sym j.from ∙ ap name_in tags in
-                  absurd (true≢false (sym (is_from_side (name_in tag) pair link first) ∙ not-true _ free))
-              | inr stays ↦ joins_with pair.link pair.first pair.second j (subst (λ a. HasMember schema now a pair.link.member.0 j.tag j.def j.slot) (sym same) stays)
-            ]
-            | inr apart ↦ joins_with pair.link pair.first pair.second j (member_elsewhere schema heap now j.address pair.link.member.0 j.tag j.def j.slot (change.others j.address apart) j.has)
-          ];
-        }
-
     forth : (pair : Pair) → sets.contains (joined_alone pairs (record { ty = record { 0 = tag.code }; member = record { 0 = member } }) (name_in tag) y) pair ≡ true → HasPair schema now pair
     forth pair e = elim (or_cases (eq_by_cmp pair_cmp pair the_pair) _ (sym (got pair) ∙ e)) [
       | inl tied ↦ subst (HasPair schema now) (sym (tied_same pair_cmp-IsAntisymmetric pair the_pair tied)) new_pair
@@ -294,27 +335,13 @@ module _ (schema : Schema) (heap now : Heap) (address member : ℕ) (tag : RowTa
         or_true false = refl
 
     back : (pair : Pair) → HasPair schema now pair → sets.contains (joined_alone pairs (record { ty = record { 0 = tag.code }; member = record { 0 = member } }) (name_in tag) y) pair ≡ true
-    back pair has =
-        let j = has.joins in
-        elim (cases_eq j.address address) [
-          | inl same ↦ elim (member_now pair.link.member.0 j.tag j.def j.slot (subst (λ a. HasMember schema now a pair.link.member.0 j.tag j.def j.slot) same j.has)) [
-            | inl here ↦
-                let tags = same_object now j.address address j.tag tag j.has.slots (set slots member (Slot.Refers pointer)) same j.has.object stands_now in
-                let link : pair.link ≡ record { ty = record { 0 = tag.code }; member = record { 0 = member } } = ap₂ (λ (t n : ℕ). record { ty = record { 0 = t }; member = record { 0 = n } }) (sym j.ty ∙ ap (λ (t : RowTag). t.code) tags) here.0 in
-                let first : pair.first ≡ name_in tag = sym j.from ∙ ap name_in tags in
-                let leads : (pointer ≡ j.pointer) × (j.pointer ≢ 0) = subst (λ s. LeadsTo now j.tag.segment j.def.kind s j.pointer) here.2 j.leads in
-                let second : pair.second ≡ y = same_Some _ _ (sym j.to ∙ ap (name_at now) (sym leads.0) ∙ names_by_tags heap now tags_stay pointer ∙ named) in
-                let is : pair ≡ the_pair = λ i. record { link = link i; first = first i; second = second i } in
-                got pair ∙ ap (λ b. b || (sets.contains pairs pair && not (is_from (record { ty = record { 0 = tag.code }; member = record { 0 = member } }) (name_in tag) pair))) (same_tied pair_cmp-IsTotalOrder pair the_pair is)
-            | inr was ↦
-                stays_there pair (record { link = has.link; joins = joined_with pair.link pair.first pair.second j (subst (λ a. HasMember schema heap a pair.link.member.0 j.tag j.def j.slot) (sym same) was.1) })
-                (λ e. was.0 (ap (λ (s : Side). s.member.0) (from_parts (name_in tag) pair e).0))
-          ]
-          | inr apart ↦
-              let was = member_elsewhere schema now heap j.address pair.link.member.0 j.tag j.def j.slot (sym (change.others j.address apart)) j.has in
-              stays_there pair (record { link = has.link; joins = joined_with pair.link pair.first pair.second j was })
-              (λ e. apart (named_object heap address j.address tag j.tag slots was.slots own change.was was.object (j.from ∙ (from_parts (name_in tag) pair e).1)))
-        ]
+    back pair has = elim (back_pair own pair has) [
+      | inl here ↦
+          let second : pair.second ≡ y = same_Some _ _ (sym here.3 ∙ names_by_tags heap now tags_stay pointer ∙ named) in
+          let same : pair ≡ the_pair = λ i. record { link = here.0 i; first = here.1 i; second = second i } in
+          got pair ∙ ap (λ b. b || (sets.contains pairs pair && not (is_from (record { ty = record { 0 = tag.code }; member = record { 0 = member } }) (name_in tag) pair))) (same_tied pair_cmp-IsTotalOrder pair the_pair same)
+      | inr was ↦ stays_there pair was.1 was.0
+    ]
 
     pub pairs_joined : ShowsPairs schema now (joined_alone pairs (record { ty = record { 0 = tag.code }; member = record { 0 = member } }) (name_in tag) y)
     pairs_joined pair = (forth pair, back pair)

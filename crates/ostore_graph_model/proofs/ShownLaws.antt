@@ -23,7 +23,7 @@ pub map_all : {X Y : Type 0} (f g : X → Y) (xs : List X) → All (λ x. f x �
 map_all f g [] same = refl
 map_all f g (x ∷ xs) same = ap₂ (λ y ys. y ∷ ys) (same 0 x (omega arith)) (map_all f g xs (λ k d below. same (suc k) d (omega arith)))
 
-any_all : {X : Type 0} (P Q : X → Type 0) (xs : List X) → All (λ x. P x → Q x) xs → Any P xs → Any Q xs
+pub any_all : {X : Type 0} (P Q : X → Type 0) (xs : List X) → All (λ x. P x → Q x) xs → Any P xs → Any Q xs
 any_all P Q xs gives any = (any.0, any.1, any.2, any.3, subst (λ x. P x → Q x) any.3 (gives any.0 any.1 any.2) any.4)
 
 pub all_then : {X : Type 0} (P Q : X → Type 0) (xs : List X) → ((x : X) → P x → Q x) → All P xs → All Q xs

@@ -41,12 +41,12 @@ cell_in-same : (old new : List ℕ) (o : ℕ) → (header_of new).kind ≡ (head
 unfolding cell_in
 cell_in-same old new o kind segment cells = λ i. cond (eqb (kind i) 2) (option_map (placed (segment i)) (find (begins_at o) (cells i))) None
 
-read_page : (pages : List PageImage) (p o : ℕ) → p < length pages → option_and_then (λ (image : PageImage). cell_in image.bytes o) (slice_get pages p) ≡ cell_in (bytes_at pages p) o
+pub read_page : (pages : List PageImage) (p o : ℕ) → p < length pages → option_and_then (λ (image : PageImage). cell_in image.bytes o) (slice_get pages p) ≡ cell_in (bytes_at pages p) o
 read_page [] p o below = absurd (omega arith)
 read_page (page ∷ pages) zero o below = refl
 read_page (page ∷ pages) (suc p) o below = read_page pages p o (omega arith)
 
-none_page : (pages : List PageImage) (p : ℕ) → length pages ≤ p → slice_get pages p ≡ None
+pub none_page : (pages : List PageImage) (p : ℕ) → length pages ≤ p → slice_get pages p ≡ None
 none_page [] p high = refl
 none_page (page ∷ pages) zero high = absurd (omega arith)
 none_page (page ∷ pages) (suc p) high = none_page pages p (omega arith)

@@ -55,25 +55,9 @@ pub record KeepsHeap (schema : Schema) (heap : Heap) (rows : List RootRow) (seri
   pub owners : (address : ℕ) → KeepsOwner schema heap address
   pub items : (address : ℕ) → KeepsItems heap address
 
--- the chains of a heap are whole, and their items lead to rows
-pub record KeepsItemChains (schema : Schema) (heap : Heap) : Type 0 where
-  pub pointers : (address : ℕ) → KeepsPointers schema heap address
-  pub chains : (address : ℕ) → KeepsChains schema heap address
-  pub items : (address : ℕ) → KeepsItems heap address
-
 -- a collection that is as it should be after its change leaves a good heap
 abbrev pub LawOfCollections : Type 0
 LawOfCollections =
     (schema : Schema) (heap now : Heap) (rows : List RootRow) (serials : ℕ → ℕ) (address member : ℕ) (tag : RowTag) (def : MemberDef) (slots : List Slot) (was is : CollectionHead) (chain after : List ChainLink)
     → ChangesCollection schema heap now address member tag def slots was is chain after → IsGoodNow schema now def is after
     → KeepsHeap schema heap rows serials → KeepsHeap schema now rows serials
-
--- Where the collection is a list, which is not empty now, its names are the graph's list at that member, and the
--- graph's other lists stay.
-abbrev pub LawOfLists : Type 0
-LawOfLists =
-    (schema : Schema) (heap now : Heap) (address member : ℕ) (tag : RowTag) (def : MemberDef) (slots : List Slot) (was is : CollectionHead) (chain after : List ChainLink) (names : List Name)
-    (lists : maps.FinMap place_cmp (List Name)) (serials : ℕ → ℕ)
-    → ChangesCollection schema heap now address member tag def slots was is chain after → KeepsItemChains schema heap → ((other : ℕ) → KeepsSerials (tag_at heap) serials other) → chunk_code def.kind ≡ LIST_CHUNK
-    → entries_of after ≢ [] → map (λ entry. name_at now entry.item) (entries_of after) ≡ map Some names
-    → ShowsLists schema heap lists → ShowsLists schema now (maps.insert lists (record { object = name_in tag; member = record { 0 = member } }) names)

@@ -72,9 +72,13 @@ LawOfTexts =
 abbrev pub is_from : Side → Name → Pair → Bool
 is_from side x pair = is_eq (side_cmp pair.link side) && is_eq (name_cmp pair.first x)
 
+-- x is joined at a side with nobody: what `set` to null makes of the pairs
+abbrev pub parted_from : sets.FinSet pair_cmp → Side → Name → sets.FinSet pair_cmp
+parted_from pairs side x = sets.retain pairs (λ pair. not (is_from side x pair))
+
 -- x is joined at a side with y alone: what `set` makes of the pairs, where the side is a one-sided reference
 abbrev pub joined_alone : sets.FinSet pair_cmp → Side → Name → Name → sets.FinSet pair_cmp
-joined_alone pairs side x y = sets.insert (sets.retain pairs (λ pair. not (is_from side x pair))) (record { link = side; first = x; second = y })
+joined_alone pairs side x y = sets.insert (parted_from pairs side x) (record { link = side; first = x; second = y })
 
 -- A one-sided reference that leads to a row of its type joins the object with that row's name.
 abbrev pub LawOfReferences : Type 0
@@ -83,6 +87,13 @@ LawOfReferences =
     → HoldGraph schema old graph → WritesRef schema old new address member cell place target pointer
     → pointer ≢ 0 → cell_at old pointer ≡ Some to → to.code ≡ target.0
     → LeavesGraph schema old new (record graph { pairs = joined_alone graph.pairs (side_of cell member) (name_of cell) (name_of to) })
+
+-- One that is null parts the object from what it led to.
+abbrev pub LawOfNullReferences : Type 0
+LawOfNullReferences =
+    (schema : Schema) (old new : List PageImage) (address member : ℕ) (cell : PlacedCell) (place : Place) (target : TypeNo) (graph : Graph)
+    → HoldGraph schema old graph → WritesRef schema old new address member cell place target 0
+    → LeavesGraph schema old new (record graph { pairs = parted_from graph.pairs (side_of cell member) (name_of cell) })
 
 -- ---- an object is made
 

@@ -31,3 +31,6 @@ pub mod Collections
 pub mod PageEdits
 pub mod LawsOfMeaning
 pub mod LawsOfCells
+pub mod CollectionEdits
+pub mod LawsOfOrder
+pub mod LawsOfFreshPages

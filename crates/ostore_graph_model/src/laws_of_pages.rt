@@ -2,10 +2,11 @@
 //! calls its function.
 
 ghost use Rattle.ostore_graph_model.specs.LawsOfMeaning.{LawOfOneGraph, LawOfSomeGraph, LawOfNoIndexes};
-ghost use Rattle.ostore_graph_model.specs.LawsOfMeaning.{LawOfInts, LawOfTexts, LawOfReferences, LawOfNewObjects};
+ghost use Rattle.ostore_graph_model.specs.LawsOfMeaning.{LawOfInts, LawOfTexts, LawOfReferences, LawOfNullReferences, LawOfNewObjects};
 ghost use Rattle.ostore_graph_model.specs.LawsOfMeaning.{LawOfTakenPages, LawOfSameReading};
 ghost use Rattle.ostore_graph_model.specs.LawsOfMeaning.{LawOfBoundRoots, LawOfUnboundRoots};
-ghost use Rattle.ostore_graph_model.specs.Collections.{LawOfCollections, LawOfLists};
+ghost use Rattle.ostore_graph_model.specs.LawsOfFreshPages.{LawOfFreshPages};
+ghost use Rattle.ostore_graph_model.specs.LawsOfOrder.{LawOfLinkSides, LawOfIndexOrder};
 
 /// Pages stand for one graph at most.
 pub fn graph_is_one()
@@ -39,6 +40,12 @@ pub fn reference_is_written()
     ensures { LawOfReferences }
 {}
 
+/// A one-sided reference that is null leaves good pages, which stand for the graph in which the object is joined
+/// with nothing at that side.
+pub fn reference_is_cleared()
+    ensures { LawOfNullReferences }
+{}
+
 /// A serial that is drawn and a cell of zeros with it leave good pages, which stand for what `new` makes of
 /// the graph.
 pub fn object_is_made()
@@ -55,17 +62,6 @@ pub fn root_is_unbound()
     ensures { LawOfUnboundRoots }
 {}
 
-/// A collection that is changed as a whole, and is as it should be then, leaves a good heap: rules 7 to 10 hold
-/// again, but for the bytes of single cells.
-pub fn collection_is_changed()
-    ensures { LawOfCollections }
-{}
-
-/// A list that is changed as a whole is the graph's list at its member, and the other lists stay.
-pub fn list_is_changed()
-    ensures { LawOfLists }
-{}
-
 /// A page that is taken from the free list changes nothing of the graph.
 pub fn page_is_taken()
     ensures { LawOfTakenPages }
@@ -74,4 +70,19 @@ pub fn page_is_taken()
 /// Lists of pages from which the same is read mean the same.
 pub fn same_is_read()
     ensures { LawOfSameReading }
+{}
+
+/// A fresh list of pages is valid, and stands for the empty graph.
+pub fn fresh_pages_are_empty()
+    ensures { LawOfFreshPages }
+{}
+
+/// A pair of a two-sided link is in the graph by the side that stands first in the schema's text.
+pub fn link_goes_by_first_side()
+    ensures { LawOfLinkSides }
+{}
+
+/// An index of ints has its entries by ascending int.
+pub fn index_ascends()
+    ensures { LawOfIndexOrder }
 {}

@@ -6,6 +6,7 @@ mod commands;
 mod history;
 mod laws;
 mod laws_of_cells;
+mod laws_of_collections;
 mod laws_of_pages;
 mod refusal;
 mod values;
@@ -17,10 +18,15 @@ pub use laws_of_cells::{
     cells_are_sized, held_image_tells_cells, one_cell_is_added, one_cell_is_dead,
     one_cell_is_edited, pointers_lead_to_pages,
 };
+pub use laws_of_collections::{
+    collection_is_changed, item_is_appended, item_is_inserted, item_is_put, item_is_removed,
+    key_is_bound, key_is_unbound,
+};
 pub use laws_of_pages::{
-    collection_is_changed, graph_is_one, graph_is_there, int_is_written, list_is_changed,
-    no_index_is_wrong, object_is_made, page_is_taken, reference_is_written, root_is_bound,
-    root_is_unbound, same_is_read, text_is_written,
+    fresh_pages_are_empty, graph_is_one, graph_is_there, index_ascends, int_is_written,
+    link_goes_by_first_side, no_index_is_wrong, object_is_made, page_is_taken,
+    reference_is_cleared, reference_is_written, root_is_bound, root_is_unbound, same_is_read,
+    text_is_written,
 };
 pub use refusal::Refusal;
 pub use values::{Listed, Name, Names, Replies, Reply, Scalar, Value};
