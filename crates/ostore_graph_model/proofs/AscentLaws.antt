@@ -13,7 +13,8 @@ use Rattle.ostore_graph_model.specs.declared.commands.Key.TheVariants as keys
 use Rattle.ostore_graph_model.specs.Orders.{name_cmp}
 use Rattle.ostore_graph_model.specs.Sides.{comes_first}
 use Rattle.ostore_graph_model.specs.IndexRules.{AreInOrder}
-use Rattle.ostore_graph_model.specs.LawsOfOrder.{LawOfLinkSides, AscendByInt, LawOfIndexOrder}
+use Rattle.ostore_graph_model.specs.LawsOfLinks.{LawOfFirstSides}
+use Rattle.ostore_graph_model.specs.LawsOfIndexes.{AscendByInt, LawOfIndexOrder}
 
 less_by_two : (a b c d : ℕ) → IsTrue (is_lt (ordering_then (nat_cmp a b) (nat_cmp c d))) → (a < b) ⊎ ((a ≡ b) × (c < d))
 less_by_two a b c d less = by (nat_cmp a b) refl (nat_cmp c d) refl less
@@ -25,7 +26,7 @@ less_by_two a b c d less = by (nat_cmp a b) refl (nat_cmp c d) refl less
     by Equal e Greater f is = absurd (true≢false (sym is))
     by Greater e second f is = absurd (true≢false (sym is))
 
-pub sides_law : LawOfLinkSides
+pub sides_law : LawOfFirstSides
 sides_law schema pages graph pair def inverse stands paired defined sided =
     let link = ((stands.pairs pair).0 paired).link in
     let same : link.def ≡ def = same_Some _ _ (sym link.defined ∙ defined) in

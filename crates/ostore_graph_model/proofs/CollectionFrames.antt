@@ -30,7 +30,7 @@ use Rattle.ostore_graph_model.specs.StandsFor.{HasObject, Joins, HasPair, HasCol
 use Rattle.ostore_graph_model.proofs.OrderLaws.{place_cmp-IsTotalOrder, place_cmp-IsAntisymmetric, tied_same, same_tied}
 use Rattle.ostore_graph_model.proofs.ObjectLaws.{Values, AreNamesOwn, named_object, same_object}
 use Rattle.ostore_graph_model.proofs.ChainLaws.{chain_unique}
-use Rattle.ostore_graph_model.proofs.ItemLaws.{items_lead}
+use Rattle.ostore_graph_model.proofs.ItemLaws.{items_lead, leads_to_row}
 use Rattle.ostore_graph_model.proofs.ReferenceLaws.{same_tags, same_slots}
 use Rattle.ostore_graph_model.proofs.ShownLaws.{map_all, any_all, all_then}
 use Rattle.ostore_graph_model.proofs.CollectionLaws.{has, now_member, was_member, tags_grow, moved, object_away, object_was_away}
@@ -44,12 +44,6 @@ name_stays heap now grow pointer code there = found (heap pointer) refl
     found (Some cell) e =
         let tag = ap (option_map (λ (c : HeapCell). c.tag)) e in
         ap (option_map name_in) (grow pointer cell.tag tag ∙ sym tag)
-
--- what holds of the items of all entries holds of each item
-pub each_item : (P : ℕ → Type 0) (entries : List ChunkEntry) → All (λ (entry : ChunkEntry). P entry.item) entries → (pointer : ℕ) → Contains (map (λ (entry : ChunkEntry). entry.item) entries) pointer → P pointer
-each_item P [] all pointer there = absurd (let below = there.1 in omega arith)
-each_item P (entry ∷ entries) all pointer (zero, below, is) = subst P is (all 0 entry (omega arith))
-each_item P (entry ∷ entries) all pointer (suc k, below, is) = each_item P entries (λ i d low. all (suc i) d (omega arith)) pointer (k, omega arith, is)
 
 begins_same : (one other : CollectionHead) → Slot.Begins one ≡ Slot.Begins other → one ≡ other
 begins_same one other e = cc
@@ -309,15 +303,6 @@ module _ (schema : Schema) (heap now : Heap) (address member : ℕ) (tag : RowTa
     there = leads.there;
   }
 
-  -- it leads to a row of its type
-  lead_code : (a m : ℕ) (t : RowTag) (d : MemberDef) (slot : Slot) → HasMember schema heap a m t d slot → (pointer : ℕ) → LeadsTo heap t.segment d.kind slot pointer → code_at heap pointer ≡ Some (item_type d.kind)
-  lead_code a m t d Slot.Plain held pointer leads = absurd leads
-  lead_code a m t d (Slot.Refers to) held pointer leads =
-      let good = (pointers a).members m t d (Slot.Refers to) held in
-      ap (code_at heap) (sym leads.0) ∙ good (λ none. leads.1 (sym leads.0 ∙ none))
-  lead_code a m t d (Slot.Begins head) held pointer leads =
-      each_item (λ item. code_at heap item ≡ Some (item_type d.kind)) leads.entries (items_lead schema heap pointers items a m t d head leads.entries held leads.has) pointer leads.there
-
   -- ---- pairs
 
   pub joins_forth : (link : Side) (x y : Name) → (link ≡ side → x ≡ name_in tag → ⊥) → Joins schema heap link x y → Joins schema now link x y
@@ -335,7 +320,7 @@ module _ (schema : Schema) (heap now : Heap) (address member : ℕ) (tag : RowTa
         from = j.from;
         pointer = j.pointer;
         leads = leads_forth j.address link.member.0 j.tag j.def j.slot j.has away j.pointer j.leads;
-        to = named_stays j.pointer _ (lead_code j.address link.member.0 j.tag j.def j.slot j.has j.pointer j.leads) ∙ j.to;
+        to = named_stays j.pointer _ (leads_to_row schema heap pointers items j.address link.member.0 j.tag j.def j.slot j.has j.pointer j.leads) ∙ j.to;
       }
 
   pub joins_back : (link : Side) (x y : Name) → Joins schema now link x y
@@ -364,7 +349,7 @@ module _ (schema : Schema) (heap now : Heap) (address member : ℕ) (tag : RowTa
             from = j.from;
             pointer = j.pointer;
             leads = leads;
-            to = sym (named_stays j.pointer _ (lead_code j.address link.member.0 j.tag j.def j.slot old.1 j.pointer leads)) ∙ j.to;
+            to = sym (named_stays j.pointer _ (leads_to_row schema heap pointers items j.address link.member.0 j.tag j.def j.slot old.1 j.pointer leads)) ∙ j.to;
           },
         )
   ]

@@ -40,13 +40,13 @@ use Rattle.ostore_graph_model.proofs.KeyLaws.{key_cmp-IsTotalOrder, key_cmp-IsAn
 use Rattle.ostore_graph_model.proofs.OrderLaws.{side_cmp-IsTotalOrder, side_cmp-IsAntisymmetric, name_cmp-IsTotalOrder, name_cmp-IsAntisymmetric, pair_cmp-IsTotalOrder, pair_cmp-IsAntisymmetric, tied_same, same_tied, apart_tied}
 use Rattle.ostore_graph_model.proofs.ObjectLaws.{AreNamesOwn, names_own}
 use Rattle.ostore_graph_model.proofs.UniqueLaws.{one_map}
-use Rattle.ostore_graph_model.proofs.ItemLaws.{items_lead}
+use Rattle.ostore_graph_model.proofs.ItemLaws.{each_item, items_lead}
 use Rattle.ostore_graph_model.proofs.ShownLaws.{map_all}
 use Rattle.ostore_graph_model.proofs.ChainLaws.{in_or_not, chain_unique}
 use Rattle.ostore_graph_model.proofs.GraphExists.{names_of, nil_or_not, dictionary_of}
 use Rattle.ostore_graph_model.proofs.GraphLaws.{addresses_bounded}
 use Rattle.ostore_graph_model.proofs.CollectionLaws.{has, collection_law}
-use Rattle.ostore_graph_model.proofs.CollectionFrames.{each_item, had, rows_had, collection_was, collection_had, named_stays, names_stay, lists_stay, dictionaries_stay, pairs_stay, links_stay, objects_stay, roots_stay, indexes_stay}
+use Rattle.ostore_graph_model.proofs.CollectionFrames.{had, rows_had, collection_was, collection_had, named_stays, names_stay, lists_stay, dictionaries_stay, pairs_stay, links_stay, objects_stay, roots_stay, indexes_stay}
 use Rattle.ostore_graph_model.proofs.ListLaws.{list_put}
 use Rattle.ostore_graph_model.proofs.DictionaryLaws.{dictionary_gone, dictionary_put}
 use Rattle.ostore_graph_model.proofs.SetLaws.{pairs_changed, was_paired}

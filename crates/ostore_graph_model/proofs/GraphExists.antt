@@ -312,7 +312,7 @@ module _ (schema : Schema) (heap : Heap) (count : ℕ) (bounded : (address : ℕ
     }
 
     -- two collections of one place and code are one
-    same_entries : (place : Place) (code other : ℕ) (one two : List ChunkEntry) → HasCollection schema heap place code one → HasCollection schema heap place other two → one ≡ two
+    pub same_entries : (place : Place) (code other : ℕ) (one two : List ChunkEntry) → HasCollection schema heap place code one → HasCollection schema heap place other two → one ≡ two
     same_entries place code other one two first second =
         let at = named_object heap first.address second.address first.tag second.tag (first.has).slots (second.has).slots own (first.has).object (second.has).object (second.named ∙ sym first.named) in
         let good = (chains first.address).collections place.member.0 first.tag first.def first.head first.has in

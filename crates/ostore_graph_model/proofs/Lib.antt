@@ -40,3 +40,5 @@ pub mod SetLaws
 pub mod CollectionGraphs
 pub mod AscentLaws
 pub mod FreshLaw
+pub mod SideLaws
+pub mod SizeLaw

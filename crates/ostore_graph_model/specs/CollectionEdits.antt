@@ -19,7 +19,7 @@ use Rattle.ostore_graph_model.specs.Addresses.{PlacedCell, cell_at}
 use Rattle.ostore_graph_model.specs.FixedPages.{roots_of, serial_of}
 use Rattle.ostore_graph_model.specs.MemberValues.{values_of}
 use Rattle.ostore_graph_model.specs.Records.{CollectionHead, Slot, ChunkEntry, RowTag, heap_of}
-use Rattle.ostore_graph_model.specs.Heap.{name_in}
+use Rattle.ostore_graph_model.specs.Heap.{name_in, HasMember}
 use Rattle.ostore_graph_model.specs.Chains.{chunk_code, ChainLink, IsIn, entries_of}
 use Rattle.ostore_graph_model.specs.CellRules.{is_written}
 use Rattle.ostore_graph_model.specs.Valid.{HasGoodPages}
@@ -62,6 +62,13 @@ items_of entries = map (λ entry. entry.item) entries
 -- the items of a list member, none where it isn't in the graph
 abbrev pub list_in : Graph → Place → List Name
 list_in graph place = unwrap_or (maps.get graph.lists place) []
+
+-- in good cells the count of a list is the number of its items in the graph
+abbrev pub LawOfListSizes : Type 0
+LawOfListSizes =
+    (schema : Schema) (pages : List PageImage) (graph : Graph) (address member : ℕ) (tag : RowTag) (def : MemberDef) (head : CollectionHead)
+    → HoldGraph schema pages graph → HasMember schema (heap_of schema pages) address member tag def (Slot.Begins head) → chunk_code def.kind ≡ LIST_CHUNK
+    → head.count ≡ length (list_in graph (place_of tag member))
 
 -- an item behind the others: the graph that `append` makes
 abbrev pub LawOfAppends : Type 0

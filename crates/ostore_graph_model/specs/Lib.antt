@@ -32,5 +32,6 @@ pub mod PageEdits
 pub mod LawsOfMeaning
 pub mod LawsOfCells
 pub mod CollectionEdits
-pub mod LawsOfOrder
+pub mod LawsOfLinks
+pub mod LawsOfIndexes
 pub mod LawsOfFreshPages

@@ -3,12 +3,17 @@
 
 ghost use Rattle.ostore_graph_model.specs.Collections.{LawOfCollections};
 ghost use Rattle.ostore_graph_model.specs.CollectionEdits.{LawOfAppends, LawOfPuts, LawOfBinds, LawOfUnbinds};
-ghost use Rattle.ostore_graph_model.specs.CollectionEdits.{LawOfInserts, LawOfRemoves};
+ghost use Rattle.ostore_graph_model.specs.CollectionEdits.{LawOfInserts, LawOfRemoves, LawOfListSizes};
 
 /// A collection that is as it should be after its change leaves a good heap: rules 7 to 10 hold again, but for the
 /// bytes of single cells.
 pub fn collection_is_changed()
     ensures { LawOfCollections }
+{}
+
+/// In good cells the count of a list is the number of its items in the graph.
+pub fn count_is_list_size()
+    ensures { LawOfListSizes }
 {}
 
 /// An item behind the others of a list leaves good pages, which stand for what `append` makes of the graph.

@@ -6,7 +6,8 @@ ghost use Rattle.ostore_graph_model.specs.LawsOfMeaning.{LawOfInts, LawOfTexts, 
 ghost use Rattle.ostore_graph_model.specs.LawsOfMeaning.{LawOfTakenPages, LawOfSameReading};
 ghost use Rattle.ostore_graph_model.specs.LawsOfMeaning.{LawOfBoundRoots, LawOfUnboundRoots};
 ghost use Rattle.ostore_graph_model.specs.LawsOfFreshPages.{LawOfFreshPages};
-ghost use Rattle.ostore_graph_model.specs.LawsOfOrder.{LawOfLinkSides, LawOfIndexOrder};
+ghost use Rattle.ostore_graph_model.specs.LawsOfLinks.{LawOfFirstSides, LawOfSides};
+ghost use Rattle.ostore_graph_model.specs.LawsOfIndexes.{LawOfIndexOrder};
 
 /// Pages stand for one graph at most.
 pub fn graph_is_one()
@@ -79,7 +80,12 @@ pub fn fresh_pages_are_empty()
 
 /// A pair of a two-sided link is in the graph by the side that stands first in the schema's text.
 pub fn link_goes_by_first_side()
-    ensures { LawOfLinkSides }
+    ensures { LawOfFirstSides }
+{}
+
+/// Where the links are good, each side of a link, the second one too, shows exactly the graph's pairs.
+pub fn each_side_shows_pairs()
+    ensures { LawOfSides }
 {}
 
 /// An index of ints has its entries by ascending int.

@@ -19,12 +19,12 @@ pub use laws_of_cells::{
     one_cell_is_edited, pointers_lead_to_pages,
 };
 pub use laws_of_collections::{
-    collection_is_changed, item_is_appended, item_is_inserted, item_is_put, item_is_removed,
-    key_is_bound, key_is_unbound,
+    collection_is_changed, count_is_list_size, item_is_appended, item_is_inserted, item_is_put,
+    item_is_removed, key_is_bound, key_is_unbound,
 };
 pub use laws_of_pages::{
-    fresh_pages_are_empty, graph_is_one, graph_is_there, index_ascends, int_is_written,
-    link_goes_by_first_side, no_index_is_wrong, object_is_made, page_is_taken,
+    each_side_shows_pairs, fresh_pages_are_empty, graph_is_one, graph_is_there, index_ascends,
+    int_is_written, link_goes_by_first_side, no_index_is_wrong, object_is_made, page_is_taken,
     reference_is_cleared, reference_is_written, root_is_bound, root_is_unbound, same_is_read,
     text_is_written,
 };
