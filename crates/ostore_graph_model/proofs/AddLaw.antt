@@ -5,7 +5,7 @@ use Rattle.std.proofs.lemmas.List.{get_or-map}
 use Rattle.std.specs.Option.{option_map}
 use Rattle.std.specs.Ordering.{eq_by_cmp}
 use Rattle.std.specs.FinMap as maps
-use Rattle.std.specs.FinSet as sets
+use Rattle.ostore_graph_model.specs.Sets as sets
 use Rattle.std.proofs.lemmas.Bool.{cases_eq, cases_Bool}
 use Rattle.std.proofs.lemmas.Option.{same_Some, none-some}
 use Rattle.ostore_page_tags.specs.Rules.{is_type_code}
@@ -13,13 +13,14 @@ use Rattle.ostore_schema_layout.specs.declared.schema.Schema.{Schema}
 use Rattle.ostore_schema_layout.specs.declared.schema.MemberDef.{MemberDef}
 use Rattle.ostore_schema_layout.specs.declared.schema.MemberKind.{MemberKind}
 use Rattle.ostore_graph_model.specs.declared.values.Name.{Name}
-use Rattle.ostore_graph_model.specs.declared.values.Value.{Value}
+use Rattle.ostore_graph_model.specs.declared.values.Scalar.{Scalar}
 use Rattle.ostore_graph_model.specs.Orders.{Pair, name_cmp, pair_cmp}
 use Rattle.ostore_graph_model.specs.Graph.{Object}
 use Rattle.ostore_graph_model.specs.Chains.{item_type, LeadsTo}
 use Rattle.ostore_graph_model.specs.Heap.{Heap, tag_at, code_at, name_at, name_in, live_cell, IsObject, HasMember}
 use Rattle.ostore_graph_model.specs.HeapRules.{HasGoodPointers, KeepsPointers, KeepsSerials, KeepsItems}
-use Rattle.ostore_graph_model.specs.Records.{CollectionHead, Slot, ChunkEntry, Links, RowTag, HeapCell}
+use Rattle.ostore_graph_model.specs.Chunks.{ChunkEntry}
+use Rattle.ostore_graph_model.specs.Records.{CollectionHead, Slot, Links, RowTag, HeapCell}
 use Rattle.ostore_graph_model.specs.StandsFor.{HasPair, HasObject, ShowsObjects, ShowsPairs}
 use Rattle.ostore_graph_model.proofs.OrderLaws.{tied_same, same_tied, apart_tied, name_cmp-IsTotalOrder, name_cmp-IsAntisymmetric}
 use Rattle.ostore_graph_model.proofs.ObjectLaws.{Values, object_with, same_object, tag_of_cell}
@@ -118,7 +119,7 @@ module _ (schema : Schema) (heap now : Heap) (address : ℕ) (tag : RowTag) (slo
 
   -- ---- objects
 
-  module _ (values after : Values) (held : List Value) (objects : maps.FinMap name_cmp Object) (here : after address ≡ Some held) (elsewhere : (other : ℕ) → other ≢ address → after other ≡ values other) (shown : ShowsObjects heap values objects) where
+  module _ (values after : Values) (held : List (Option Scalar)) (objects : maps.FinMap name_cmp Object) (here : after address ≡ Some held) (elsewhere : (other : ℕ) → other ≢ address → after other ≡ values other) (shown : ShowsObjects heap values objects) where
     got : (name : Name) → maps.get (maps.insert objects (name_in tag) (object_with tag held)) name ≡ cond (eq_by_cmp name_cmp name (name_in tag)) (Some (object_with tag held)) (maps.get objects name)
     got name = maps.get-insert name_cmp-IsTotalOrder objects (name_in tag) (object_with tag held) name
 
@@ -151,7 +152,7 @@ module _ (schema : Schema) (heap now : Heap) (address : ℕ) (tag : RowTag) (slo
           let values_are : held ≡ object.values = same_Some _ _ (sym here ∙ ap after (sym same) ∙ has.held) in
           got name
           ∙ ap (λ b. cond b (Some (object_with tag held)) (maps.get objects name)) tied
-          ∙ ap₂ (λ (t : ℕ) (v : List Value). Some (record { ty = record { 0 = t }; values = v })) ty values_are
+          ∙ ap₂ (λ (t : ℕ) (v : List (Option Scalar)). Some (record { ty = record { 0 = t }; values = v })) ty values_are
       | inr apart ↦
           let there : heap has.address ≡ Some (live_cell has.tag (Links.Object has.slots)) = sym (adds.others has.address apart) ∙ has.stands.there in
           let was = (shown name object).1 (record {

@@ -1,5 +1,5 @@
 -- What goes first: by which of its two sides a link goes, and the order of an index.
-use Rattle.std.proofs.Common.{◌≡◌, ℕ, ◌<◌, ◌⊎◌, ℤ, ◌<ℤ◌, true, false, inl, inr, List, [], ◌∷◌, refl, sym, ap, subst, ◌∙◌, Some, true≢false}
+use Rattle.std.proofs.Common.{◌≡◌, ℕ, ◌<◌, ◌⊎◌, ℤ, ◌<ℤ◌, inl, inr, List, [], ◌∷◌, refl, sym, ap, subst, ◌∙◌, Some, true≢false}
 use Rattle.std.specs.Prelude.{IsTrue}
 use Rattle.std.specs.List.{AllByRecursion}
 use Rattle.std.specs.declared.cmp.Ordering.{Ordering}
@@ -11,7 +11,7 @@ use Rattle.ostore_schema_layout.specs.declared.schema.MemberDef.{MemberDef}
 use Rattle.ostore_schema_layout.specs.Cells.{ArePairwise}
 use Rattle.ostore_graph_model.specs.declared.commands.Key.TheVariants as keys
 use Rattle.ostore_graph_model.specs.Orders.{name_cmp}
-use Rattle.ostore_graph_model.specs.Sides.{comes_first}
+use Rattle.ostore_graph_model.specs.Links.{comes_first}
 use Rattle.ostore_graph_model.specs.IndexRules.{AreInOrder}
 use Rattle.ostore_graph_model.specs.LawsOfLinks.{LawOfFirstSides}
 use Rattle.ostore_graph_model.specs.LawsOfIndexes.{AscendByInt, LawOfIndexOrder}

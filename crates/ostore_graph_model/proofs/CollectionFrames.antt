@@ -1,33 +1,32 @@
 -- Where one collection of one object is another: what the other members, lists, dictionaries, links, roots and
 -- indexes show is what they showed.
-use Rattle.std.proofs.Common.{◌≡◌, ◌≢◌, ◌⊎◌, ℕ, Bool, true, false, List, [], ◌∷◌, map, set, refl, sym, ap, ap₂, subst, ◌∙◌, arith, Option, Some, None, inl, inr, true≢false, zero, suc}
-use Rattle.std.specs.List.{slice_get, All, Any, Contains}
+use Rattle.std.proofs.Common.{◌≡◌, ◌≢◌, ◌⊎◌, ℕ, List, [], map, set, refl, sym, ap, ap₂, subst, ◌∙◌, Option, Some, None, inl, inr, true≢false}
+use Rattle.std.specs.List.{slice_get, All, Any}
 use Rattle.std.specs.Option.{option_map}
 use Rattle.std.specs.Ordering.{eq_by_cmp}
 use Rattle.std.specs.FinMap as maps
-use Rattle.std.specs.FinSet as sets
+use Rattle.ostore_graph_model.specs.Sets as sets
 use Rattle.std.proofs.lemmas.Bool.{cases_eq, cases_Bool}
-use Rattle.std.proofs.lemmas.Option.{same_Some, none-some, slice_get_within}
-use Rattle.ostore_page_tags.specs.Rules.{is_type_code}
+use Rattle.std.proofs.lemmas.Option.{same_Some, none-some}
 use Rattle.ostore_schema_layout.specs.declared.schema.Schema.{Schema}
 use Rattle.ostore_schema_layout.specs.declared.schema.MemberDef.{MemberDef}
-use Rattle.ostore_schema_layout.specs.declared.schema.Inverse.{Inverse}
 use Rattle.ostore_schema_layout.specs.Cells.{descriptor_code}
 use Rattle.ostore_schema_layout.specs.Numbers.{members_of}
 use Rattle.ostore_schema_layout.specs.Lawful.{link_target}
 use Rattle.ostore_graph_model.specs.declared.values.Name.{Name}
 use Rattle.ostore_graph_model.specs.declared.commands.Key.{Key}
-use Rattle.ostore_graph_model.specs.Orders.{Side, Pair, Place, place_cmp, key_cmp, pair_cmp, text_cmp, index_cmp, name_cmp}
+use Rattle.ostore_graph_model.specs.Orders.{TypeMember, ObjectMember, object_member_cmp, key_cmp, pair_cmp, text_cmp, index_cmp, name_cmp}
 use Rattle.ostore_graph_model.specs.Graph.{Object}
 use Rattle.ostore_graph_model.specs.FixedPages.{RootRow}
-use Rattle.ostore_graph_model.specs.Chains.{item_type, chunk_code, ChainLink, IsChain, IsIn, entries_of, indexes_of, HasEntries, HasEntryOf, LeadsTo}
+use Rattle.ostore_graph_model.specs.Chains.{item_type, chunk_code, ChainLink, IsChain, IsIn, entries_of, HasEntries, LeadsTo}
 use Rattle.ostore_graph_model.specs.Collections.{ChangesCollection}
 use Rattle.ostore_graph_model.specs.Heap.{Heap, tag_at, code_at, name_at, name_in, live_cell, IsObject, HasMember}
-use Rattle.ostore_graph_model.specs.HeapRules.{IsGoodRoot, KeepsRoots, KeepsPointers, KeepsItems, KeepsChains, KeepsLinks, HasSideTo, HasGoodPointers}
-use Rattle.ostore_graph_model.specs.Owners.{Owner, ChainHead, chain_head, OwnsIndexes, Owns}
-use Rattle.ostore_graph_model.specs.Records.{CollectionHead, Slot, ChunkEntry, Links, RowTag, HeapCell}
+use Rattle.ostore_graph_model.specs.HeapRules.{IsGoodRoot, KeepsRoots, KeepsPointers, KeepsItems, KeepsChains, KeepsLinks}
+use Rattle.ostore_graph_model.specs.Owners.{Owner, chain_head, OwnsIndexes}
+use Rattle.ostore_graph_model.specs.Chunks.{ChunkEntry}
+use Rattle.ostore_graph_model.specs.Records.{CollectionHead, Slot, Links, RowTag, HeapCell}
 use Rattle.ostore_graph_model.specs.StandsFor.{HasObject, Joins, HasPair, HasCollection, HasList, Binds, HasDictionary, HasIndex, ShowsObjects, ShowsPairs, ShowsLists, ShowsDictionaries, ShowsIndexes, ShowsRoots}
-use Rattle.ostore_graph_model.proofs.OrderLaws.{place_cmp-IsTotalOrder, place_cmp-IsAntisymmetric, tied_same, same_tied}
+use Rattle.ostore_graph_model.proofs.OrderLaws.{object_member_cmp-IsTotalOrder, object_member_cmp-IsAntisymmetric, tied_same, same_tied}
 use Rattle.ostore_graph_model.proofs.ObjectLaws.{Values, AreNamesOwn, named_object, same_object}
 use Rattle.ostore_graph_model.proofs.ChainLaws.{chain_unique}
 use Rattle.ostore_graph_model.proofs.ItemLaws.{items_lead, leads_to_row}
@@ -61,10 +60,10 @@ module _ (schema : Schema) (heap now : Heap) (address member : ℕ) (tag : RowTa
     (change : ChangesCollection schema heap now address member tag def slots was is chain after)
     (chains : (other : ℕ) → KeepsChains schema heap other) (pointers : (other : ℕ) → KeepsPointers schema heap other) (items : (other : ℕ) → KeepsItems heap other)
     (own : AreNamesOwn heap) where
-  abbrev pub place : Place
+  abbrev pub place : ObjectMember
   place = record { object = name_in tag; member = record { 0 = member } }
 
-  abbrev pub side : Side
+  abbrev pub side : TypeMember
   side = record { ty = record { 0 = tag.code }; member = record { 0 = member } }
 
   pub had : HasMember schema heap address member tag def (Slot.Begins was)
@@ -93,7 +92,7 @@ module _ (schema : Schema) (heap now : Heap) (address member : ℕ) (tag : RowTa
 
   -- ---- lists and dictionaries, as collections
 
-  collection_forth : (other : Place) (code : ℕ) (entries : List ChunkEntry) → other ≢ place → HasCollection schema heap other code entries → HasCollection schema now other code entries
+  collection_forth : (other : ObjectMember) (code : ℕ) (entries : List ChunkEntry) → other ≢ place → HasCollection schema heap other code entries → HasCollection schema now other code entries
   collection_forth other code entries apart c =
       let away : c.address ≡ address → other.member.0 ≡ member → ⊥ = λ a m.
       let tags = same_object heap c.address address c.tag tag c.has.slots slots a c.has.object change.object in
@@ -113,7 +112,7 @@ module _ (schema : Schema) (heap now : Heap) (address member : ℕ) (tag : RowTa
         };
       }
 
-  collection_back : (other : Place) (code : ℕ) (entries : List ChunkEntry) → HasCollection schema now other code entries
+  collection_back : (other : ObjectMember) (code : ℕ) (entries : List ChunkEntry) → HasCollection schema now other code entries
       → ((other ≡ place) × (code ≡ chunk_code def.kind) × (entries ≡ entries_of after)) ⊎ ((other ≢ place) × HasCollection schema heap other code entries)
   collection_back other code entries c = elim (now_member schema heap now address member tag def slots was is chain after change c.address other.member.0 c.tag c.def (Slot.Begins c.head) c.has) [
     | inl this ↦
@@ -129,9 +128,9 @@ module _ (schema : Schema) (heap now : Heap) (address member : ℕ) (tag : RowTa
         )
     | inr old ↦ inr (
       λ e.
-          let name : name_in c.tag ≡ name_in tag = c.named ∙ ap (λ (p : Place). p.object) e in
+          let name : name_in c.tag ≡ name_in tag = c.named ∙ ap (λ (p : ObjectMember). p.object) e in
           let at = named_object heap address c.address tag c.tag slots (old.1).slots own change.object (old.1).object name in
-          old.0 at (ap (λ (p : Place). p.member.0) e),
+          old.0 at (ap (λ (p : ObjectMember). p.member.0) e),
       record {
         address = c.address;
         tag = c.tag;
@@ -173,21 +172,21 @@ module _ (schema : Schema) (heap now : Heap) (address member : ℕ) (tag : RowTa
   rows_had = items_lead schema heap pointers items address member tag def was (entries_of chain) had (record { chain = chain; linked = change.linked; all = refl })
 
   -- the names along a collection that was there
-  pub names_stay : (other : Place) (code : ℕ) (entries : List ChunkEntry) → HasCollection schema heap other code entries → All (λ entry. name_at now entry.item ≡ name_at heap entry.item) entries
+  pub names_stay : (other : ObjectMember) (code : ℕ) (entries : List ChunkEntry) → HasCollection schema heap other code entries → All (λ entry. name_at now entry.item ≡ name_at heap entry.item) entries
   names_stay other code entries c =
       all_then (λ (entry : ChunkEntry). code_at heap entry.item ≡ Some (item_type c.def.kind)) (λ (entry : ChunkEntry). name_at now entry.item ≡ name_at heap entry.item) entries
       (λ entry there. named_stays entry.item _ there)
       (items_lead schema heap pointers items c.address other.member.0 c.tag c.def c.head entries c.has (subst (λ k. HasEntries heap k c.tag.segment c.head.first entries) (sym c.kind) c.all))
 
-  pub at_place_or_not : (other : Place) → (other ≡ place) ⊎ (other ≢ place)
-  at_place_or_not other = elim (cases_Bool (eq_by_cmp place_cmp other place)) [
-    | inl tied ↦ inl (tied_same place_cmp-IsAntisymmetric other place tied)
-    | inr free ↦ inr (λ same. true≢false (sym (same_tied place_cmp-IsTotalOrder other place same) ∙ free))
+  pub at_place_or_not : (other : ObjectMember) → (other ≡ place) ⊎ (other ≢ place)
+  at_place_or_not other = elim (cases_Bool (eq_by_cmp object_member_cmp other place)) [
+    | inl tied ↦ inl (tied_same object_member_cmp-IsAntisymmetric other place tied)
+    | inr free ↦ inr (λ same. true≢false (sym (same_tied object_member_cmp-IsTotalOrder other place same) ∙ free))
   ]
 
   -- ---- lists
 
-  pub list_forth : (other : Place) (x : List Name) → other ≢ place → HasList schema heap other x → HasList schema now other x
+  pub list_forth : (other : ObjectMember) (x : List Name) → other ≢ place → HasList schema heap other x → HasList schema now other x
   list_forth other x apart h = record {
     entries = h.entries;
     some = h.some;
@@ -195,7 +194,7 @@ module _ (schema : Schema) (heap now : Heap) (address member : ℕ) (tag : RowTa
     named = map_all (λ (entry : ChunkEntry). name_at now entry.item) (λ (entry : ChunkEntry). name_at heap entry.item) h.entries (names_stay other 241 h.entries h.has) ∙ h.named;
   }
 
-  pub list_back : (other : Place) (x : List Name) → HasList schema now other x
+  pub list_back : (other : ObjectMember) (x : List Name) → HasList schema now other x
       → ((other ≡ place) × (241 ≡ chunk_code def.kind) × (entries_of after ≢ []) × (map (λ (entry : ChunkEntry). name_at now entry.item) (entries_of after) ≡ map (λ (n : Name). Some n) x)) ⊎ ((other ≢ place) × HasList schema heap other x)
   list_back other x h = elim (collection_back other 241 h.entries h.has) [
     | inl this ↦ inl (this.0, this.1, (λ e. h.some (this.2 ∙ e)), ap (map (λ (entry : ChunkEntry). name_at now entry.item)) (sym this.2) ∙ h.named)
@@ -211,7 +210,7 @@ module _ (schema : Schema) (heap now : Heap) (address member : ℕ) (tag : RowTa
   ]
 
   -- where the collection is no list, the lists stay
-  pub lists_stay : (241 ≡ chunk_code def.kind → ⊥) → (lists : maps.FinMap place_cmp (List Name)) → ShowsLists schema heap lists → ShowsLists schema now lists
+  pub lists_stay : (241 ≡ chunk_code def.kind → ⊥) → (lists : maps.FinMap object_member_cmp (List Name)) → ShowsLists schema heap lists → ShowsLists schema now lists
   lists_stay no_list lists shown other x = (
     λ e.
         let h = (shown other x).0 e in
@@ -224,14 +223,14 @@ module _ (schema : Schema) (heap now : Heap) (address member : ℕ) (tag : RowTa
 
   -- ---- dictionaries
 
-  pub binds_stay : (other : Place) (code : ℕ) (entries : List ChunkEntry) (key : Key) (name : Name) → HasCollection schema heap other code entries → (Any (Binds heap key name) entries → Any (Binds now key name) entries) × (Any (Binds now key name) entries → Any (Binds heap key name) entries)
+  pub binds_stay : (other : ObjectMember) (code : ℕ) (entries : List ChunkEntry) (key : Key) (name : Name) → HasCollection schema heap other code entries → (Any (Binds heap key name) entries → Any (Binds now key name) entries) × (Any (Binds now key name) entries → Any (Binds heap key name) entries)
   binds_stay other code entries key name c =
       let same = names_stay other code entries c in (
         any_all (Binds heap key name) (Binds now key name) entries (λ k d below binds. (binds.0, same k d below ∙ binds.1)),
         any_all (Binds now key name) (Binds heap key name) entries (λ k d below binds. (binds.0, sym (same k d below) ∙ binds.1)),
       )
 
-  pub dictionary_forth : (other : Place) (x : maps.FinMap key_cmp Name) → other ≢ place → HasDictionary schema heap other x → HasDictionary schema now other x
+  pub dictionary_forth : (other : ObjectMember) (x : maps.FinMap key_cmp Name) → other ≢ place → HasDictionary schema heap other x → HasDictionary schema now other x
   dictionary_forth other x apart h = record {
     code = h.code;
     keyed = h.keyed;
@@ -243,7 +242,7 @@ module _ (schema : Schema) (heap now : Heap) (address member : ℕ) (tag : RowTa
         (λ e. same.0 ((h.bound key name).0 e), λ any. (h.bound key name).1 (same.1 any));
   }
 
-  pub dictionary_back : (other : Place) (x : maps.FinMap key_cmp Name) → HasDictionary schema now other x
+  pub dictionary_back : (other : ObjectMember) (x : maps.FinMap key_cmp Name) → HasDictionary schema now other x
       → ((other ≡ place) × ((chunk_code def.kind ≡ 242) ⊎ (chunk_code def.kind ≡ 243)) × (entries_of after ≢ [])
       × ((key : Key) (name : Name) → (maps.get x key ≡ Some name → Any (Binds now key name) (entries_of after)) × (Any (Binds now key name) (entries_of after) → maps.get x key ≡ Some name)))
       ⊎ ((other ≢ place) × HasDictionary schema heap other x)
@@ -270,7 +269,7 @@ module _ (schema : Schema) (heap now : Heap) (address member : ℕ) (tag : RowTa
   ]
 
   -- where the collection is no dictionary, the dictionaries stay
-  pub dictionaries_stay : ((chunk_code def.kind ≡ 242) ⊎ (chunk_code def.kind ≡ 243) → ⊥) → (dictionaries : maps.FinMap place_cmp (maps.FinMap key_cmp Name)) → ShowsDictionaries schema heap dictionaries → ShowsDictionaries schema now dictionaries
+  pub dictionaries_stay : ((chunk_code def.kind ≡ 242) ⊎ (chunk_code def.kind ≡ 243) → ⊥) → (dictionaries : maps.FinMap object_member_cmp (maps.FinMap key_cmp Name)) → ShowsDictionaries schema heap dictionaries → ShowsDictionaries schema now dictionaries
   dictionaries_stay no_dictionary dictionaries shown other x = (
     λ e.
         let h = (shown other x).0 e in
@@ -305,7 +304,7 @@ module _ (schema : Schema) (heap now : Heap) (address member : ℕ) (tag : RowTa
 
   -- ---- pairs
 
-  pub joins_forth : (link : Side) (x y : Name) → (link ≡ side → x ≡ name_in tag → ⊥) → Joins schema heap link x y → Joins schema now link x y
+  pub joins_forth : (link : TypeMember) (x y : Name) → (link ≡ side → x ≡ name_in tag → ⊥) → Joins schema heap link x y → Joins schema now link x y
   joins_forth link x y apart j =
       let away : j.address ≡ address → link.member.0 ≡ member → ⊥ = λ a m.
       let tags = same_object heap j.address address j.tag tag j.has.slots slots a j.has.object change.object in
@@ -323,7 +322,7 @@ module _ (schema : Schema) (heap now : Heap) (address member : ℕ) (tag : RowTa
         to = named_stays j.pointer _ (leads_to_row schema heap pointers items j.address link.member.0 j.tag j.def j.slot j.has j.pointer j.leads) ∙ j.to;
       }
 
-  pub joins_back : (link : Side) (x y : Name) → Joins schema now link x y
+  pub joins_back : (link : TypeMember) (x y : Name) → Joins schema now link x y
       → ((link ≡ side) × (x ≡ name_in tag) × ((pointer : ℕ) × LeadsTo now tag.segment def.kind (Slot.Begins is) pointer × (name_at now pointer ≡ Some y))) ⊎ ((link ≡ side → x ≡ name_in tag → ⊥) × Joins schema heap link x y)
   joins_back link x y j = elim (now_member schema heap now address member tag def slots was is chain after change j.address link.member.0 j.tag j.def j.slot j.has) [
     | inl this ↦ inl (
@@ -338,7 +337,7 @@ module _ (schema : Schema) (heap now : Heap) (address member : ℕ) (tag : RowTa
     | inr old ↦
         let leads = leads_back j.address link.member.0 j.tag j.def j.slot old.1 old.0 j.pointer j.leads in
         inr (
-          λ e f. old.0 (named_object heap address j.address tag j.tag slots (old.1).slots own change.object (old.1).object (j.from ∙ f)) (ap (λ (s : Side). s.member.0) e),
+          λ e f. old.0 (named_object heap address j.address tag j.tag slots (old.1).slots own change.object (old.1).object (j.from ∙ f)) (ap (λ (s : TypeMember). s.member.0) e),
           record {
             address = j.address;
             tag = j.tag;
@@ -371,12 +370,12 @@ module _ (schema : Schema) (heap now : Heap) (address member : ℕ) (tag : RowTa
 
       not_here : pair.link ≡ side → HasPair schema heap pair → ⊥
       not_here same h =
-          let defined = ap (λ (s : Side). slice_get (members_of schema s.ty.0) s.member.0) (sym same) ∙ h.link.defined in
+          let defined = ap (λ (s : TypeMember). slice_get (members_of schema s.ty.0) s.member.0) (sym same) ∙ h.link.defined in
           h.link.sided (no_target h.link.def (same_Some _ _ (sym defined ∙ change.defined)))
 
       not_there : pair.link ≡ side → HasPair schema now pair → ⊥
       not_there same h =
-          let defined = ap (λ (s : Side). slice_get (members_of schema s.ty.0) s.member.0) (sym same) ∙ h.link.defined in
+          let defined = ap (λ (s : TypeMember). slice_get (members_of schema s.ty.0) s.member.0) (sym same) ∙ h.link.defined in
           h.link.sided (no_target h.link.def (same_Some _ _ (sym defined ∙ change.defined)))
 
   -- ---- links

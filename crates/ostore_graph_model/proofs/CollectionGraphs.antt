@@ -5,8 +5,9 @@ use Rattle.std.specs.List.{All, Any, Contains}
 use Rattle.std.specs.Option.{option_map}
 use Rattle.std.specs.Ordering.{eq_by_cmp}
 use Rattle.std.specs.FinMap as maps
-use Rattle.std.specs.FinSet as sets
-use Rattle.std.proofs.lemmas.Bool.{cases_eq, ne_eqb, cases_Bool, or_cases, and_parts, and_from, not-true, false_from_ne_true}
+use Rattle.ostore_graph_model.specs.Sets as sets
+use Rattle.ostore_graph_model.proofs.SetFacts as set_facts
+use Rattle.std.proofs.lemmas.Bool.{cases_eq, ne_eqb, cases_Bool, or_cases, and_parts, and_from, not-true}
 use Rattle.std.proofs.lemmas.List.{map-append, map-set}
 use Rattle.std.proofs.lemmas.Option.{same_Some, none-some}
 use Rattle.ostore_base.specs.declared.page.PageImage.{PageImage}
@@ -20,24 +21,31 @@ use Rattle.ostore_schema_layout.specs.Cells.{ArePairwise}
 use Rattle.ostore_schema_layout.specs.Lawful.{link_target}
 use Rattle.ostore_graph_model.specs.declared.values.Name.{Name}
 use Rattle.ostore_graph_model.specs.declared.commands.Key.{Key}
-use Rattle.ostore_graph_model.specs.Orders.{Pair, pair_cmp, place_cmp, key_cmp, side_cmp, name_cmp}
-use Rattle.ostore_graph_model.specs.Graph.{Graph}
+use Rattle.ostore_graph_model.specs.Orders.{ObjectMember, Pair, pair_cmp, object_member_cmp, key_cmp, type_member_cmp, name_cmp}
+use Rattle.ostore_graph_model.specs.Graph.{Graph, Dictionary, list_at, dictionary_at}
+use Rattle.ostore_graph_model.specs.Kinds.{is_ref}
+use Rattle.ostore_graph_model.specs.Links.{pair_at}
+use Rattle.ostore_graph_model.specs.Deeds.{LiveMember}
+use Rattle.ostore_graph_model.specs.Deeds.Collections.{items_of, with_items, bindings_of, with_bindings}
+use Rattle.ostore_graph_model.specs.Deeds.References.{with_joined}
+use Rattle.ostore_graph_model.proofs.JoinedFacts.{live_parts, own_pair, joined_by_set}
 use Rattle.ostore_graph_model.specs.Addresses.{PlacedCell, cell_at}
 use Rattle.ostore_graph_model.specs.FixedPages.{roots_of, serial_of}
 use Rattle.ostore_graph_model.specs.MemberValues.{values_in, values_of}
-use Rattle.ostore_graph_model.specs.Records.{ChunkEntry, RowTag, HeapCell, heap_cell, heap_of}
+use Rattle.ostore_graph_model.specs.Chunks.{ChunkEntry}
+use Rattle.ostore_graph_model.specs.Records.{RowTag, HeapCell, heap_cell, heap_of}
 use Rattle.ostore_graph_model.specs.Heap.{Heap, tag_at, code_at, name_at, name_in}
 use Rattle.ostore_graph_model.specs.Chains.{chunk_code, IsIn, entries_of, item_type}
 use Rattle.ostore_graph_model.specs.CellRules.{is_written}
 use Rattle.ostore_graph_model.specs.HeapRules.{KeepsRoots, KeepsSerials}
-use Rattle.ostore_graph_model.specs.StandsFor.{HasCollection, Binds, ShowsObjects, ShowsPairs, ShowsLists, ShowsDictionaries, ShowsRoots, ShowsSerials}
+use Rattle.ostore_graph_model.specs.StandsFor.{HasCollection, Binds, ShowsPairs, ShowsLists, ShowsDictionaries, ShowsRoots, ShowsSerials}
 use Rattle.ostore_graph_model.specs.Valid.{HasGoodCells}
 use Rattle.ostore_graph_model.specs.PageEdits.{name_of}
 use Rattle.ostore_graph_model.specs.Collections.{KeepsHeap}
 use Rattle.ostore_graph_model.specs.LawsOfMeaning.{HoldGraph, LeavesGraph}
-use Rattle.ostore_graph_model.specs.CollectionEdits.{WritesCollection, place_of, side_at, items_of, list_in, dictionary_in, with_bindings, Pairs, IsDictionary, LawOfAppends, LawOfPuts, LawOfBinds, LawOfUnbinds, LawOfInserts, LawOfRemoves}
+use Rattle.ostore_graph_model.specs.CollectionEdits.{WritesCollection, object_member, type_member, entry_items, Pairs, LawOfAppends, LawOfPuts, LawOfBinds, LawOfUnbinds, LawOfInserts, LawOfRemoves}
 use Rattle.ostore_graph_model.proofs.KeyLaws.{key_cmp-IsTotalOrder, key_cmp-IsAntisymmetric}
-use Rattle.ostore_graph_model.proofs.OrderLaws.{side_cmp-IsTotalOrder, side_cmp-IsAntisymmetric, name_cmp-IsTotalOrder, name_cmp-IsAntisymmetric, pair_cmp-IsTotalOrder, pair_cmp-IsAntisymmetric, tied_same, same_tied, apart_tied}
+use Rattle.ostore_graph_model.proofs.OrderLaws.{type_member_cmp-IsTotalOrder, type_member_cmp-IsAntisymmetric, name_cmp-IsTotalOrder, name_cmp-IsAntisymmetric, pair_cmp-IsTotalOrder, pair_cmp-IsAntisymmetric, tied_same, same_tied, apart_tied}
 use Rattle.ostore_graph_model.proofs.ObjectLaws.{AreNamesOwn, names_own}
 use Rattle.ostore_graph_model.proofs.UniqueLaws.{one_map}
 use Rattle.ostore_graph_model.proofs.ItemLaws.{each_item, items_lead}
@@ -125,6 +133,10 @@ first_entry : (entries : List ChunkEntry) → entries ≢ [] → (entry : ChunkE
 first_entry [] some = absurd (some refl)
 first_entry (entry ∷ entries) some = (entry, omega arith, refl)
 
+-- a graph with these bindings of a member
+abbrev pub binding : Graph → ObjectMember → Dictionary → Graph
+binding graph place bindings = record graph { dictionaries = cond (eqb (maps.len bindings) 0) (maps.remove graph.dictionaries place) (maps.insert graph.dictionaries place bindings) }
+
 -- ---- any collection
 
 module _ (schema : Schema) (old new : List PageImage) (address member : ℕ) (tag : RowTag) (def : MemberDef) (before after : List ChunkEntry) (graph : Graph)
@@ -171,7 +183,7 @@ module _ (schema : Schema) (old new : List PageImage) (address member : ℕ) (ta
     | inr apart ↦ ap (option_map (values_in schema)) (write.cells other apart outside)
   ]
 
-  pub leaves : (lists : maps.FinMap place_cmp (List Name)) (dictionaries : maps.FinMap place_cmp (maps.FinMap key_cmp Name)) (pairs : sets.FinSet pair_cmp)
+  pub leaves : (lists : maps.FinMap object_member_cmp (List Name)) (dictionaries : maps.FinMap object_member_cmp (maps.FinMap key_cmp Name)) (pairs : sets.FinSet pair_cmp)
       → ShowsLists schema (heap_of schema new) lists → ShowsDictionaries schema (heap_of schema new) dictionaries → ShowsPairs schema (heap_of schema new) pairs
       → LeavesGraph schema old new (record graph { pairs = pairs; lists = lists; dictionaries = dictionaries })
   leaves lists dictionaries pairs lists_shown dictionaries_shown pairs_shown =
@@ -204,53 +216,53 @@ module _ (schema : Schema) (old new : List PageImage) (address member : ℕ) (ta
 
   -- the items that were there have the names that they had
   old_names : All (λ (entry : ChunkEntry). name_at (heap_of schema new) entry.item ≡ name_at (heap_of schema old) entry.item) (entries_of write.chain)
-  old_names = names_stay schema (heap_of schema old) (heap_of schema new) address member tag def write.slots write.was write.is write.chain write.links write.changes holds.cells_kept.chains holds.cells_kept.pointers holds.cells_kept.items own (place_of tag member) (chunk_code def.kind) (entries_of write.chain) (collection_had schema (heap_of schema old) (heap_of schema new) address member tag def write.slots write.was write.is write.chain write.links write.changes holds.cells_kept.chains holds.cells_kept.pointers holds.cells_kept.items own)
+  old_names = names_stay schema (heap_of schema old) (heap_of schema new) address member tag def write.slots write.was write.is write.chain write.links write.changes holds.cells_kept.chains holds.cells_kept.pointers holds.cells_kept.items own (object_member tag member) (chunk_code def.kind) (entries_of write.chain) (collection_had schema (heap_of schema old) (heap_of schema new) address member tag def write.slots write.was write.is write.chain write.links write.changes holds.cells_kept.chains holds.cells_kept.pointers holds.cells_kept.items own)
 
-  old_item : (pointer : ℕ) → Contains (items_of before) pointer → name_at (heap_of schema new) pointer ≡ name_at (heap_of schema old) pointer
+  old_item : (pointer : ℕ) → Contains (entry_items before) pointer → name_at (heap_of schema new) pointer ≡ name_at (heap_of schema old) pointer
   old_item pointer there =
       each_item (λ item. name_at (heap_of schema new) item ≡ name_at (heap_of schema old) item) (entries_of write.chain) old_names pointer
-      (subst (λ es. Contains (items_of es) pointer) (sym write.before_is) there)
+      (subst (λ es. Contains (entry_items es) pointer) (sym write.before_is) there)
 
   -- ---- lists
 
   module _ (kind : chunk_code def.kind ≡ 241) where
-    list_had : map (λ (entry : ChunkEntry). name_at (heap_of schema old) entry.item) (entries_of write.chain) ≡ map (λ (n : Name). Some n) (list_in graph (place_of tag member))
-    list_had = found (maps.get graph.lists (place_of tag member)) refl
+    list_had : map (λ (entry : ChunkEntry). name_at (heap_of schema old) entry.item) (entries_of write.chain) ≡ map (λ (n : Name). Some n) (list_at graph (object_member tag member))
+    list_had = found (maps.get graph.lists (object_member tag member)) refl
       where
-        found : (held : Option (List Name)) → maps.get graph.lists (place_of tag member) ≡ held → map (λ (entry : ChunkEntry). name_at (heap_of schema old) entry.item) (entries_of write.chain) ≡ map (λ (n : Name). Some n) (unwrap_or held [])
+        found : (held : Option (List Name)) → maps.get graph.lists (object_member tag member) ≡ held → map (λ (entry : ChunkEntry). name_at (heap_of schema old) entry.item) (entries_of write.chain) ≡ map (λ (n : Name). Some n) (unwrap_or held [])
         found (Some xs) e =
-            let h = (holds.stands.lists (place_of tag member) xs).0 e in
+            let h = (holds.stands.lists (object_member tag member) xs).0 e in
             let entries = (collection_was schema (heap_of schema old) (heap_of schema new) address member tag def write.slots write.was write.is write.chain write.links write.changes holds.cells_kept.chains holds.cells_kept.pointers holds.cells_kept.items own 241 h.entries h.has).1 in
             ap (map (λ (entry : ChunkEntry). name_at (heap_of schema old) entry.item)) (sym entries) ∙ h.named
         found None e = elim (nil_or_not (entries_of write.chain)) [
           | inl none ↦ ap (map (λ (entry : ChunkEntry). name_at (heap_of schema old) entry.item)) none
           | inr some ↦
               let named = names_of (heap_of schema old) (item_type def.kind) (entries_of write.chain) (rows_had schema (heap_of schema old) (heap_of schema new) address member tag def write.slots write.was write.is write.chain write.links write.changes holds.cells_kept.chains holds.cells_kept.pointers holds.cells_kept.items own) in
-              let there = (holds.stands.lists (place_of tag member) named.0).1 (record {
+              let there = (holds.stands.lists (object_member tag member) named.0).1 (record {
                 entries = entries_of write.chain;
                 some = some;
-                has = subst (λ k. HasCollection schema (heap_of schema old) (place_of tag member) k (entries_of write.chain)) kind (collection_had schema (heap_of schema old) (heap_of schema new) address member tag def write.slots write.was write.is write.chain write.links write.changes holds.cells_kept.chains holds.cells_kept.pointers holds.cells_kept.items own);
+                has = subst (λ k. HasCollection schema (heap_of schema old) (object_member tag member) k (entries_of write.chain)) kind (collection_had schema (heap_of schema old) (heap_of schema new) address member tag def write.slots write.was write.is write.chain write.links write.changes holds.cells_kept.chains holds.cells_kept.pointers holds.cells_kept.items own);
                 named = named.1;
               }) in
               absurd (none-some named.0 (sym e ∙ there))
         ]
 
     -- the names of the items that were there
-    names_had : map (name_at (heap_of schema new)) (items_of before) ≡ map (λ (n : Name). Some n) (list_in graph (place_of tag member))
+    names_had : map (name_at (heap_of schema new)) (entry_items before) ≡ map (λ (n : Name). Some n) (list_at graph (object_member tag member))
     names_had =
-        ap (λ es. map (name_at (heap_of schema new)) (items_of es)) (sym write.before_is)
+        ap (λ es. map (name_at (heap_of schema new)) (entry_items es)) (sym write.before_is)
         ∙ sym (items_names (heap_of schema new) (entries_of write.chain))
         ∙ map_all (λ (entry : ChunkEntry). name_at (heap_of schema new) entry.item) (λ (entry : ChunkEntry). name_at (heap_of schema old) entry.item) (entries_of write.chain) old_names
         ∙ list_had
 
-    pub list_leaves : (names : List Name) → items_of after ≢ [] → map (name_at (heap_of schema new)) (items_of after) ≡ map (λ (n : Name). Some n) names
-        → LeavesGraph schema old new (record graph { lists = maps.insert graph.lists (place_of tag member) names })
+    pub list_leaves : (names : List Name) → entry_items after ≢ [] → map (name_at (heap_of schema new)) (entry_items after) ≡ map (λ (n : Name). Some n) names
+        → LeavesGraph schema old new (record graph { lists = maps.insert graph.lists (object_member tag member) names })
     list_leaves names some named =
         let stands = holds.stands in
-        leaves (maps.insert graph.lists (place_of tag member) names) graph.dictionaries graph.pairs
+        leaves (maps.insert graph.lists (object_member tag member) names) graph.dictionaries graph.pairs
         (list_put schema (heap_of schema old) (heap_of schema new) address member tag def write.slots write.was write.is write.chain write.links write.changes holds.cells_kept.chains holds.cells_kept.pointers holds.cells_kept.items own kind names
-        (λ none. some (ap items_of (sym write.after_is) ∙ no_items (entries_of write.links) none))
-        (items_names (heap_of schema new) (entries_of write.links) ∙ ap (λ es. map (name_at (heap_of schema new)) (items_of es)) write.after_is ∙ named)
+        (λ none. some (ap entry_items (sym write.after_is) ∙ no_items (entries_of write.links) none))
+        (items_names (heap_of schema new) (entries_of write.links) ∙ ap (λ es. map (name_at (heap_of schema new)) (entry_items es)) write.after_is ∙ named)
         graph.lists stands.lists)
         (dictionaries_stay schema (heap_of schema old) (heap_of schema new) address member tag def write.slots write.was write.is write.chain write.links write.changes holds.cells_kept.chains holds.cells_kept.pointers holds.cells_kept.items own (λ keyed. no_both keyed) graph.dictionaries stands.dictionaries)
         (pairs_stay schema (heap_of schema old) (heap_of schema new) address member tag def write.slots write.was write.is write.chain write.links write.changes holds.cells_kept.chains holds.cells_kept.pointers holds.cells_kept.items own no_link graph.pairs stands.pairs)
@@ -271,12 +283,12 @@ module _ (schema : Schema) (old new : List PageImage) (address member : ℕ) (ta
         subst (λ links. ArePairwise (λ (earlier later : ChunkEntry). earlier.key ≢ later.key) (entries_of links))
         (chain_unique (heap_of schema old) (chunk_code def.kind) tag.segment write.was.first collection.chain write.chain collection.linked write.changes.linked) (collection.lawful.2 keyed)
 
-    pub dictionary_had : (key : Key) (name : Name) → (maps.get (dictionary_in graph (place_of tag member)) key ≡ Some name) ↔ Any (Binds (heap_of schema old) key name) (entries_of write.chain)
-    dictionary_had = found (maps.get graph.dictionaries (place_of tag member)) refl
+    pub dictionary_had : (key : Key) (name : Name) → (maps.get (dictionary_at graph (object_member tag member)) key ≡ Some name) ↔ Any (Binds (heap_of schema old) key name) (entries_of write.chain)
+    dictionary_had = found (maps.get graph.dictionaries (object_member tag member)) refl
       where
-        found : (held : Option (maps.FinMap key_cmp Name)) → maps.get graph.dictionaries (place_of tag member) ≡ held → (key : Key) (name : Name) → (maps.get (unwrap_or held maps.empty) key ≡ Some name) ↔ Any (Binds (heap_of schema old) key name) (entries_of write.chain)
+        found : (held : Option (maps.FinMap key_cmp Name)) → maps.get graph.dictionaries (object_member tag member) ≡ held → (key : Key) (name : Name) → (maps.get (unwrap_or held maps.empty) key ≡ Some name) ↔ Any (Binds (heap_of schema old) key name) (entries_of write.chain)
         found (Some x) e key name =
-            let h = (holds.stands.dictionaries (place_of tag member) x).0 e in
+            let h = (holds.stands.dictionaries (object_member tag member) x).0 e in
             subst (λ es. (maps.get x key ≡ Some name) ↔ Any (Binds (heap_of schema old) key name) es) (collection_was schema (heap_of schema old) (heap_of schema new) address member tag def write.slots write.was write.is write.chain write.links write.changes holds.cells_kept.chains holds.cells_kept.pointers holds.cells_kept.items own h.code h.entries h.has).1 (h.bound key name)
         found None e key name = elim (nil_or_not (entries_of write.chain)) [
           | inl none ↦ (
@@ -286,7 +298,7 @@ module _ (schema : Schema) (old new : List PageImage) (address member : ℕ) (ta
           | inr some ↦
               let cells = holds.cells_kept in
               let made = dictionary_of schema (heap_of schema old) (4096 * length old) (addresses_bounded schema old) own cells.chains cells.pointers cells.items (entries_of write.chain) keys_apart in
-              let there = (holds.stands.dictionaries (place_of tag member) made.0).1 (record {
+              let there = (holds.stands.dictionaries (object_member tag member) made.0).1 (record {
                 code = chunk_code def.kind;
                 keyed = keyed;
                 entries = entries_of write.chain;
@@ -297,21 +309,21 @@ module _ (schema : Schema) (old new : List PageImage) (address member : ℕ) (ta
               absurd (none-some made.0 (sym e ∙ there))
         ]
 
-    pub dictionary_leaves : (bindings : maps.FinMap key_cmp Name) → ((key : Key) (name : Name) → (maps.get bindings key ≡ Some name) ↔ Any (Binds (heap_of schema new) key name) (entries_of write.links))
-        → (maps.len bindings ≡ 0 → entries_of write.links ≡ []) → LeavesGraph schema old new (with_bindings graph (place_of tag member) bindings)
+    pub dictionary_leaves : (bindings : Dictionary) → ((key : Key) (name : Name) → (maps.get bindings key ≡ Some name) ↔ Any (Binds (heap_of schema new) key name) (entries_of write.links))
+        → (maps.len bindings ≡ 0 → entries_of write.links ≡ []) → LeavesGraph schema old new (binding graph (object_member tag member) bindings)
     dictionary_leaves bindings bound emptied =
         let stands = holds.stands in
         let lists = lists_stay schema (heap_of schema old) (heap_of schema new) address member tag def write.slots write.was write.is write.chain write.links write.changes holds.cells_kept.chains holds.cells_kept.pointers holds.cells_kept.items own (λ list. no_list keyed list) graph.lists stands.lists in
         let pairs = pairs_stay schema (heap_of schema old) (heap_of schema new) address member tag def write.slots write.was write.is write.chain write.links write.changes holds.cells_kept.chains holds.cells_kept.pointers holds.cells_kept.items own (dictionary_no_link def.kind keyed) graph.pairs stands.pairs in
         elim (cases_eq (maps.len bindings) 0) [
           | inl empty ↦
-              subst (λ b. LeavesGraph schema old new (cond b (record graph { dictionaries = maps.remove graph.dictionaries (place_of tag member) }) (record graph { dictionaries = maps.insert graph.dictionaries (place_of tag member) bindings })))
+              subst (λ b. LeavesGraph schema old new (record graph { dictionaries = cond b (maps.remove graph.dictionaries (object_member tag member)) (maps.insert graph.dictionaries (object_member tag member) bindings) }))
               (sym (ap (λ (n : ℕ). eqb n 0) empty))
-              (leaves graph.lists (maps.remove graph.dictionaries (place_of tag member)) graph.pairs lists (dictionary_gone schema (heap_of schema old) (heap_of schema new) address member tag def write.slots write.was write.is write.chain write.links write.changes holds.cells_kept.chains holds.cells_kept.pointers holds.cells_kept.items own graph.dictionaries stands.dictionaries (emptied empty)) pairs)
+              (leaves graph.lists (maps.remove graph.dictionaries (object_member tag member)) graph.pairs lists (dictionary_gone schema (heap_of schema old) (heap_of schema new) address member tag def write.slots write.was write.is write.chain write.links write.changes holds.cells_kept.chains holds.cells_kept.pointers holds.cells_kept.items own graph.dictionaries stands.dictionaries (emptied empty)) pairs)
           | inr some ↦
-              subst (λ b. LeavesGraph schema old new (cond b (record graph { dictionaries = maps.remove graph.dictionaries (place_of tag member) }) (record graph { dictionaries = maps.insert graph.dictionaries (place_of tag member) bindings })))
+              subst (λ b. LeavesGraph schema old new (record graph { dictionaries = cond b (maps.remove graph.dictionaries (object_member tag member)) (maps.insert graph.dictionaries (object_member tag member) bindings) }))
               (sym (ne_eqb (maps.len bindings) 0 some))
-              (leaves graph.lists (maps.insert graph.dictionaries (place_of tag member) bindings) graph.pairs lists
+              (leaves graph.lists (maps.insert graph.dictionaries (object_member tag member) bindings) graph.pairs lists
               (dictionary_put schema (heap_of schema old) (heap_of schema new) address member tag def write.slots write.was write.is write.chain write.links write.changes holds.cells_kept.chains holds.cells_kept.pointers holds.cells_kept.items own graph.dictionaries stands.dictionaries keyed bindings (λ none. some (no_bindings none)) bound) pairs)
         ]
       where
@@ -329,7 +341,7 @@ module _ (schema : Schema) (old new : List PageImage) (address member : ℕ) (ta
             ∙ maps.len-empty key_cmp Name
 
     -- a binding that stays
-    binding_forth : (key : Key) (name : Name) → maps.get (dictionary_in graph (place_of tag member)) key ≡ Some name → (item : ℕ) × Pairs before key item × (name_at (heap_of schema new) item ≡ Some name)
+    binding_forth : (key : Key) (name : Name) → maps.get (dictionary_at graph (object_member tag member)) key ≡ Some name → (item : ℕ) × Pairs before key item × (name_at (heap_of schema new) item ≡ Some name)
     binding_forth key name e =
         let found = to_pairs (heap_of schema old) (entries_of write.chain) key name ((dictionary_had key name).0 e) in (
           found.0,
@@ -337,7 +349,7 @@ module _ (schema : Schema) (old new : List PageImage) (address member : ℕ) (ta
           pairs_each (λ item. name_at (heap_of schema new) item ≡ name_at (heap_of schema old) item) (entries_of write.chain) old_names key found.0 found.1 ∙ found.2,
         )
 
-    binding_back : (key : Key) (name : Name) (item : ℕ) → Pairs before key item → name_at (heap_of schema new) item ≡ Some name → maps.get (dictionary_in graph (place_of tag member)) key ≡ Some name
+    binding_back : (key : Key) (name : Name) (item : ℕ) → Pairs before key item → name_at (heap_of schema new) item ≡ Some name → maps.get (dictionary_at graph (object_member tag member)) key ≡ Some name
     binding_back key name item pairs named =
         let there = subst (λ es. Pairs es key item) (sym write.before_is) pairs in
         (dictionary_had key name).1 (from_pairs (heap_of schema old) (entries_of write.chain) key name item there
@@ -348,12 +360,12 @@ module _ (schema : Schema) (old new : List PageImage) (address member : ℕ) (ta
 
     pub bind_leaves : (key : Key) (pointer : ℕ) (y : Name) → name_at (heap_of schema new) pointer ≡ Some y
         → ((other : Key) (item : ℕ) → Pairs after other item ↔ (((other ≡ key) × (item ≡ pointer)) ⊎ ((other ≢ key) × Pairs before other item)))
-        → LeavesGraph schema old new (with_bindings graph (place_of tag member) (maps.insert (dictionary_in graph (place_of tag member)) key y))
+        → LeavesGraph schema old new (binding graph (object_member tag member) (maps.insert (dictionary_at graph (object_member tag member)) key y))
     bind_leaves key pointer y named spec =
         dictionary_leaves (maps.insert held key y) (λ other name. (forth other name, back other name)) (λ empty. absurd (none-some y (sym (emptied empty) ∙ bound)))
       where
         held : maps.FinMap key_cmp Name
-        held = dictionary_in graph (place_of tag member)
+        held = dictionary_at graph (object_member tag member)
 
         got : (other : Key) → maps.get (maps.insert held key y) other ≡ cond (eq_by_cmp key_cmp other key) (Some y) (maps.get held other)
         got other = maps.get-insert key_cmp-IsTotalOrder held key y other
@@ -389,11 +401,11 @@ module _ (schema : Schema) (old new : List PageImage) (address member : ℕ) (ta
 
     pub unbind_leaves : (key : Key) → All (λ (entry : ChunkEntry). entry.key ≢ None) after
         → ((other : Key) (item : ℕ) → Pairs after other item ↔ ((other ≢ key) × Pairs before other item))
-        → LeavesGraph schema old new (with_bindings graph (place_of tag member) (maps.remove (dictionary_in graph (place_of tag member)) key))
+        → LeavesGraph schema old new (binding graph (object_member tag member) (maps.remove (dictionary_at graph (object_member tag member)) key))
     unbind_leaves key keys spec = dictionary_leaves (maps.remove held key) (λ other name. (forth other name, back other name)) emptied
       where
         held : maps.FinMap key_cmp Name
-        held = dictionary_in graph (place_of tag member)
+        held = dictionary_at graph (object_member tag member)
 
         got : (other : Key) → maps.get (maps.remove held key) other ≡ cond (eq_by_cmp key_cmp other key) None (maps.get held other)
         got other = maps.get-remove key_cmp-IsTotalOrder held key other
@@ -432,53 +444,56 @@ module _ (schema : Schema) (old new : List PageImage) (address member : ℕ) (ta
         ]
 
 pub binds_law : LawOfBinds
-binds_law schema old new address member tag def before after key pointer to graph holds write keyed there spec =
-    bind_leaves schema old new address member tag def before after graph holds write keyed key pointer (name_of to)
-    (item_named schema old new address member tag def before after graph holds write pointer to there).1 spec
+binds_law schema old new address member tag def before after key pointer to graph at holds write keyed there spec found =
+    subst (λ (a : LiveMember). LeavesGraph schema old new (with_bindings graph a (maps.insert (bindings_of graph a) key (name_of to)))) (live_parts schema (name_in tag) (type_member tag member) at found).2
+    (bind_leaves schema old new address member tag def before after graph holds write keyed key pointer (name_of to) (item_named schema old new address member tag def before after graph holds write pointer to there).1 spec)
 
 pub unbinds_law : LawOfUnbinds
-unbinds_law schema old new address member tag def before after key graph holds write keyed keys spec =
-    unbind_leaves schema old new address member tag def before after graph holds write keyed key keys spec
+unbinds_law schema old new address member tag def before after key graph at holds write keyed keys spec found =
+    subst (λ (a : LiveMember). LeavesGraph schema old new (with_bindings graph a (maps.remove (bindings_of graph a) key))) (live_parts schema (name_in tag) (type_member tag member) at found).2
+    (unbind_leaves schema old new address member tag def before after graph holds write keyed key keys spec)
 
 pub appends_law : LawOfAppends
-appends_law schema old new address member tag def before after pointer to graph holds write kind there is =
+appends_law schema old new address member tag def before after pointer to graph at holds write kind there is found =
     let named = (item_named schema old new address member tag def before after graph holds write pointer to there).1 in
-    let names = list_in graph (place_of tag member) in
-    list_leaves schema old new address member tag def before after graph holds write kind (names ++ name_of to ∷ [])
-    (λ none. no_append (items_of before) pointer (sym is ∙ none))
+    let names = list_at graph (object_member tag member) in
+    subst (λ (a : LiveMember). LeavesGraph schema old new (with_items graph a (items_of graph a ++ name_of to ∷ []))) (live_parts schema (name_in tag) (type_member tag member) at found).2
+    (list_leaves schema old new address member tag def before after graph holds write kind (names ++ name_of to ∷ [])
+    (λ none. no_append (entry_items before) pointer (sym is ∙ none))
     (ap (map (name_at (heap_of schema new))) is
-    ∙ map-append (name_at (heap_of schema new)) (items_of before) (pointer ∷ [])
+    ∙ map-append (name_at (heap_of schema new)) (entry_items before) (pointer ∷ [])
     ∙ ap₂ (λ (xs ys : List (Option Name)). xs ++ ys) (names_had schema old new address member tag def before after graph holds write kind) (ap (λ (n : Option Name). n ∷ []) named)
-    ∙ sym (map-append (λ (n : Name). Some n) names (name_of to ∷ [])))
+    ∙ sym (map-append (λ (n : Name). Some n) names (name_of to ∷ []))))
 
 pub puts_law : LawOfPuts
-puts_law schema old new address member tag def before after index pointer to graph holds write kind there below is =
+puts_law schema old new address member tag def before after index pointer to graph at holds write kind there below is found =
     let named = (item_named schema old new address member tag def before after graph holds write pointer to there).1 in
-    let names = list_in graph (place_of tag member) in
+    let names = list_at graph (object_member tag member) in
     let long = long_items before in
-    list_leaves schema old new address member tag def before after graph holds write kind (slice_set names index (name_of to))
-    (λ none. no_set (items_of before) index pointer (omega (arith, long, below)) (sym is ∙ none))
+    subst (λ (a : LiveMember). LeavesGraph schema old new (with_items graph a (slice_set (items_of graph a) index (name_of to)))) (live_parts schema (name_in tag) (type_member tag member) at found).2
+    (list_leaves schema old new address member tag def before after graph holds write kind (slice_set names index (name_of to))
+    (λ none. no_set (entry_items before) index pointer (omega (arith, long, below)) (sym is ∙ none))
     (ap (map (name_at (heap_of schema new))) is
-    ∙ map-set (name_at (heap_of schema new)) (items_of before) index pointer
+    ∙ map-set (name_at (heap_of schema new)) (entry_items before) index pointer
     ∙ ap₂ (λ (xs : List (Option Name)) (n : Option Name). set xs index n) (names_had schema old new address member tag def before after graph holds write kind) named
-    ∙ sym (map-set (λ (n : Name). Some n) names index (name_of to)))
+    ∙ sym (map-set (λ (n : Name). Some n) names index (name_of to))))
 
 -- ---- one-sided sets
 
-at_set_or_not : (tag : RowTag) (member : ℕ) (pair : Pair) → ((pair.link ≡ side_at tag member) × (pair.first ≡ name_in tag)) ⊎ (pair.link ≡ side_at tag member → pair.first ≡ name_in tag → ⊥)
-at_set_or_not tag member pair = elim (cases_Bool (eq_by_cmp side_cmp pair.link (side_at tag member))) [
+at_set_or_not : (tag : RowTag) (member : ℕ) (pair : Pair) → ((pair.link ≡ type_member tag member) × (pair.first ≡ name_in tag)) ⊎ (pair.link ≡ type_member tag member → pair.first ≡ name_in tag → ⊥)
+at_set_or_not tag member pair = elim (cases_Bool (eq_by_cmp type_member_cmp pair.link (type_member tag member))) [
   | inl link ↦ elim (cases_Bool (eq_by_cmp name_cmp pair.first (name_in tag))) [
-    | inl first ↦ inl (tied_same side_cmp-IsAntisymmetric pair.link (side_at tag member) link, tied_same name_cmp-IsAntisymmetric pair.first (name_in tag) first)
+    | inl first ↦ inl (tied_same type_member_cmp-IsAntisymmetric pair.link (type_member tag member) link, tied_same name_cmp-IsAntisymmetric pair.first (name_in tag) first)
     | inr free ↦ inr (λ e f. true≢false (sym (same_tied name_cmp-IsTotalOrder pair.first (name_in tag) f) ∙ free))
   ]
-  | inr free ↦ inr (λ e f. true≢false (sym (same_tied side_cmp-IsTotalOrder pair.link (side_at tag member) e) ∙ free))
+  | inr free ↦ inr (λ e f. true≢false (sym (same_tied type_member_cmp-IsTotalOrder pair.link (type_member tag member) e) ∙ free))
 ]
 
 or_true : (b : Bool) → (b || true) ≡ true
 or_true true = refl
 or_true false = refl
 
-pair_is : (tag : RowTag) (member : ℕ) (y : Name) (pair : Pair) → pair.link ≡ side_at tag member → pair.first ≡ name_in tag → pair.second ≡ y → pair ≡ record { link = side_at tag member; first = name_in tag; second = y }
+pair_is : (tag : RowTag) (member : ℕ) (y : Name) (pair : Pair) → pair.link ≡ type_member tag member → pair.first ≡ name_in tag → pair.second ≡ y → pair ≡ record { link = type_member tag member; first = name_in tag; second = y }
 pair_is tag member y pair link first second = λ i. record { link = link i; first = first i; second = second i }
 
 module _ (schema : Schema) (old new : List PageImage) (address member : ℕ) (tag : RowTag) (def : MemberDef) (before after : List ChunkEntry) (graph : Graph)
@@ -488,20 +503,20 @@ module _ (schema : Schema) (old new : List PageImage) (address member : ℕ) (ta
   set_code = ap chunk_code kind
 
   abbrev the_pair : Pair
-  the_pair = record { link = side_at tag member; first = name_in tag; second = name_of to }
+  the_pair = record { link = type_member tag member; first = name_in tag; second = name_of to }
 
-  to_now : (y : Name) → ((p : ℕ) × Contains (items_of (entries_of write.chain)) p × (name_at (heap_of schema old) p ≡ Some y)) → (p : ℕ) × Contains (items_of before) p × (name_at (heap_of schema new) p ≡ Some y)
+  to_now : (y : Name) → ((p : ℕ) × Contains (entry_items (entries_of write.chain)) p × (name_at (heap_of schema old) p ≡ Some y)) → (p : ℕ) × Contains (entry_items before) p × (name_at (heap_of schema new) p ≡ Some y)
   to_now y was =
-      let held = subst (λ es. Contains (items_of es) was.0) write.before_is was.1 in
+      let held = subst (λ es. Contains (entry_items es) was.0) write.before_is was.1 in
       (was.0, held, old_item schema old new address member tag def before after graph holds write was.0 held ∙ was.2)
 
-  to_was : (y : Name) (p : ℕ) → Contains (items_of before) p → name_at (heap_of schema new) p ≡ Some y → (q : ℕ) × Contains (items_of (entries_of write.chain)) q × (name_at (heap_of schema old) q ≡ Some y)
-  to_was y p held named = (p, subst (λ es. Contains (items_of es) p) (sym write.before_is) held, sym (old_item schema old new address member tag def before after graph holds write p held) ∙ named)
+  to_was : (y : Name) (p : ℕ) → Contains (entry_items before) p → name_at (heap_of schema new) p ≡ Some y → (q : ℕ) × Contains (entry_items (entries_of write.chain)) q × (name_at (heap_of schema old) q ≡ Some y)
+  to_was y p held named = (p, subst (λ es. Contains (entry_items es) p) (sym write.before_is) held, sym (old_item schema old new address member tag def before after graph holds write p held) ∙ named)
 
   set_leaves : (changed : sets.FinSet pair_cmp)
-      → ((pair : Pair) → sets.contains changed pair ≡ true → ((pair.link ≡ side_at tag member) × (pair.first ≡ name_in tag) × ((p : ℕ) × Contains (items_of (entries_of write.links)) p × (name_at (heap_of schema new) p ≡ Some pair.second))) ⊎ ((pair.link ≡ side_at tag member → pair.first ≡ name_in tag → ⊥) × (sets.contains graph.pairs pair ≡ true)))
-      → ((pair : Pair) → pair.link ≡ side_at tag member → pair.first ≡ name_in tag → ((p : ℕ) × Contains (items_of (entries_of write.links)) p × (name_at (heap_of schema new) p ≡ Some pair.second)) → sets.contains changed pair ≡ true)
-      → ((pair : Pair) → (pair.link ≡ side_at tag member → pair.first ≡ name_in tag → ⊥) → sets.contains graph.pairs pair ≡ true → sets.contains changed pair ≡ true)
+      → ((pair : Pair) → sets.contains changed pair ≡ true → ((pair.link ≡ type_member tag member) × (pair.first ≡ name_in tag) × ((p : ℕ) × Contains (entry_items (entries_of write.links)) p × (name_at (heap_of schema new) p ≡ Some pair.second))) ⊎ ((pair.link ≡ type_member tag member → pair.first ≡ name_in tag → ⊥) × (sets.contains graph.pairs pair ≡ true)))
+      → ((pair : Pair) → pair.link ≡ type_member tag member → pair.first ≡ name_in tag → ((p : ℕ) × Contains (entry_items (entries_of write.links)) p × (name_at (heap_of schema new) p ≡ Some pair.second)) → sets.contains changed pair ≡ true)
+      → ((pair : Pair) → (pair.link ≡ type_member tag member → pair.first ≡ name_in tag → ⊥) → sets.contains graph.pairs pair ≡ true → sets.contains changed pair ≡ true)
       → LeavesGraph schema old new (record graph { pairs = changed })
   set_leaves changed forth here away =
       let stands = holds.stands in
@@ -514,23 +529,23 @@ module _ (schema : Schema) (old new : List PageImage) (address member : ℕ) (ta
       no_dictionary (inl first) = omega (arith, first, set_code)
       no_dictionary (inr second) = omega (arith, second, set_code)
 
-  paired : (pair : Pair) → pair.link ≡ side_at tag member → pair.first ≡ name_in tag → (sets.contains graph.pairs pair ≡ true) ↔ ((p : ℕ) × Contains (items_of (entries_of write.chain)) p × (name_at (heap_of schema old) p ≡ Some pair.second))
+  paired : (pair : Pair) → pair.link ≡ type_member tag member → pair.first ≡ name_in tag → (sets.contains graph.pairs pair ≡ true) ↔ ((p : ℕ) × Contains (entry_items (entries_of write.chain)) p × (name_at (heap_of schema old) p ≡ Some pair.second))
   paired pair link first = was_paired schema (heap_of schema old) (heap_of schema new) address member tag def write.slots write.was write.is write.chain write.links write.changes holds.cells_kept.chains holds.cells_kept.pointers holds.cells_kept.items (own schema old new address member tag def before after graph holds write) target kind write.alone graph.pairs holds.stands.pairs pair link first
 
-  insert_leaves : ((item : ℕ) → Contains (items_of after) item ↔ ((item ≡ pointer) ⊎ Contains (items_of before) item))
+  insert_leaves : ((item : ℕ) → Contains (entry_items after) item ↔ ((item ≡ pointer) ⊎ Contains (entry_items before) item))
       → LeavesGraph schema old new (record graph { pairs = sets.insert graph.pairs the_pair })
   insert_leaves spec = set_leaves (sets.insert graph.pairs the_pair) forth here away
     where
       got : (pair : Pair) → sets.contains (sets.insert graph.pairs the_pair) pair ≡ (eq_by_cmp pair_cmp pair the_pair || sets.contains graph.pairs pair)
-      got pair = sets.contains-insert pair_cmp-IsTotalOrder graph.pairs the_pair pair
+      got pair = set_facts.contains-insert pair_cmp-IsTotalOrder graph.pairs the_pair pair
 
-      in_links : (item : ℕ) → Contains (items_of after) item → Contains (items_of (entries_of write.links)) item
-      in_links item held = subst (λ es. Contains (items_of es) item) (sym write.after_is) held
+      in_links : (item : ℕ) → Contains (entry_items after) item → Contains (entry_items (entries_of write.links)) item
+      in_links item held = subst (λ es. Contains (entry_items es) item) (sym write.after_is) held
 
       stays : (pair : Pair) → sets.contains graph.pairs pair ≡ true → sets.contains (sets.insert graph.pairs the_pair) pair ≡ true
       stays pair e = got pair ∙ ap (λ b. eq_by_cmp pair_cmp pair the_pair || b) e ∙ or_true (eq_by_cmp pair_cmp pair the_pair)
 
-      forth : (pair : Pair) → sets.contains (sets.insert graph.pairs the_pair) pair ≡ true → ((pair.link ≡ side_at tag member) × (pair.first ≡ name_in tag) × ((p : ℕ) × Contains (items_of (entries_of write.links)) p × (name_at (heap_of schema new) p ≡ Some pair.second))) ⊎ ((pair.link ≡ side_at tag member → pair.first ≡ name_in tag → ⊥) × (sets.contains graph.pairs pair ≡ true))
+      forth : (pair : Pair) → sets.contains (sets.insert graph.pairs the_pair) pair ≡ true → ((pair.link ≡ type_member tag member) × (pair.first ≡ name_in tag) × ((p : ℕ) × Contains (entry_items (entries_of write.links)) p × (name_at (heap_of schema new) p ≡ Some pair.second))) ⊎ ((pair.link ≡ type_member tag member → pair.first ≡ name_in tag → ⊥) × (sets.contains graph.pairs pair ≡ true))
       forth pair e = elim (or_cases (eq_by_cmp pair_cmp pair the_pair) (sets.contains graph.pairs pair) (sym (got pair) ∙ e)) [
         | inl tied ↦
             let same = tied_same pair_cmp-IsAntisymmetric pair the_pair tied in
@@ -547,29 +562,29 @@ module _ (schema : Schema) (old new : List PageImage) (address member : ℕ) (ta
         ]
       ]
 
-      here : (pair : Pair) → pair.link ≡ side_at tag member → pair.first ≡ name_in tag → ((p : ℕ) × Contains (items_of (entries_of write.links)) p × (name_at (heap_of schema new) p ≡ Some pair.second)) → sets.contains (sets.insert graph.pairs the_pair) pair ≡ true
-      here pair link first item = elim ((spec item.0).0 (subst (λ es. Contains (items_of es) item.0) write.after_is item.1)) [
+      here : (pair : Pair) → pair.link ≡ type_member tag member → pair.first ≡ name_in tag → ((p : ℕ) × Contains (entry_items (entries_of write.links)) p × (name_at (heap_of schema new) p ≡ Some pair.second)) → sets.contains (sets.insert graph.pairs the_pair) pair ≡ true
+      here pair link first item = elim ((spec item.0).0 (subst (λ es. Contains (entry_items es) item.0) write.after_is item.1)) [
         | inl this ↦
             let second : pair.second ≡ name_of to = same_Some _ _ (sym item.2 ∙ ap (name_at (heap_of schema new)) this ∙ (item_named schema old new address member tag def before after graph holds write pointer to there).1) in
             got pair ∙ ap (λ b. b || sets.contains graph.pairs pair) (same_tied pair_cmp-IsTotalOrder pair the_pair (pair_is tag member (name_of to) pair link first second))
         | inr held ↦ stays pair ((paired pair link first).1 (to_was pair.second item.0 held item.2))
       ]
 
-      away : (pair : Pair) → (pair.link ≡ side_at tag member → pair.first ≡ name_in tag → ⊥) → sets.contains graph.pairs pair ≡ true → sets.contains (sets.insert graph.pairs the_pair) pair ≡ true
+      away : (pair : Pair) → (pair.link ≡ type_member tag member → pair.first ≡ name_in tag → ⊥) → sets.contains graph.pairs pair ≡ true → sets.contains (sets.insert graph.pairs the_pair) pair ≡ true
       away pair off e = stays pair e
 
-  remove_leaves : is_type_code to.code ≡ true → ((item : ℕ) → Contains (items_of after) item ↔ ((item ≢ pointer) × Contains (items_of before) item))
+  remove_leaves : is_type_code to.code ≡ true → ((item : ℕ) → Contains (entry_items after) item ↔ ((item ≢ pointer) × Contains (entry_items before) item))
       → LeavesGraph schema old new (record graph { pairs = sets.remove graph.pairs the_pair })
   unfolding heap_of
   remove_leaves typed spec = set_leaves (sets.remove graph.pairs the_pair) forth here away
     where
       got : (pair : Pair) → sets.contains (sets.remove graph.pairs the_pair) pair ≡ (not (eq_by_cmp pair_cmp pair the_pair) && sets.contains graph.pairs pair)
-      got pair = sets.contains-remove pair_cmp-IsTotalOrder graph.pairs the_pair pair
+      got pair = set_facts.contains-remove pair_cmp-IsTotalOrder graph.pairs the_pair pair
 
       -- an item of this name is this one
-      own_name : (p : ℕ) → Contains (items_of before) p → name_at (heap_of schema old) p ≡ Some (name_of to) → p ≡ pointer
+      own_name : (p : ℕ) → Contains (entry_items before) p → name_at (heap_of schema old) p ≡ Some (name_of to) → p ≡ pointer
       own_name p held named =
-          let code = each_item (λ item. code_at (heap_of schema old) item ≡ Some (item_type def.kind)) (entries_of write.chain) (rows_had schema (heap_of schema old) (heap_of schema new) address member tag def write.slots write.was write.is write.chain write.links write.changes holds.cells_kept.chains holds.cells_kept.pointers holds.cells_kept.items (own schema old new address member tag def before after graph holds write)) p (subst (λ es. Contains (items_of es) p) (sym write.before_is) held) in
+          let code = each_item (λ item. code_at (heap_of schema old) item ≡ Some (item_type def.kind)) (entries_of write.chain) (rows_had schema (heap_of schema old) (heap_of schema new) address member tag def write.slots write.was write.is write.chain write.links write.changes holds.cells_kept.chains holds.cells_kept.pointers holds.cells_kept.items (own schema old new address member tag def before after graph holds write)) p (subst (λ es. Contains (entry_items es) p) (sym write.before_is) held) in
           let row = tag_from_code (heap_of schema old) p (item_type def.kind) code in
           let named_tag : name_in row.0 ≡ name_of to = same_Some _ _ (sym (ap (option_map name_in) row.1) ∙ named) in
           own schema old new address member tag def before after graph holds write pointer p (record { segment = to.segment; code = to.code; serial = to.serial }) row.0
@@ -579,7 +594,7 @@ module _ (schema : Schema) (old new : List PageImage) (address member : ℕ) (ta
       stays : (pair : Pair) → pair ≢ the_pair → sets.contains graph.pairs pair ≡ true → sets.contains (sets.remove graph.pairs the_pair) pair ≡ true
       stays pair other e = got pair ∙ and_from (not (eq_by_cmp pair_cmp pair the_pair)) (sets.contains graph.pairs pair) (ap not (apart_tied pair_cmp-IsAntisymmetric pair the_pair other)) e
 
-      forth : (pair : Pair) → sets.contains (sets.remove graph.pairs the_pair) pair ≡ true → ((pair.link ≡ side_at tag member) × (pair.first ≡ name_in tag) × ((p : ℕ) × Contains (items_of (entries_of write.links)) p × (name_at (heap_of schema new) p ≡ Some pair.second))) ⊎ ((pair.link ≡ side_at tag member → pair.first ≡ name_in tag → ⊥) × (sets.contains graph.pairs pair ≡ true))
+      forth : (pair : Pair) → sets.contains (sets.remove graph.pairs the_pair) pair ≡ true → ((pair.link ≡ type_member tag member) × (pair.first ≡ name_in tag) × ((p : ℕ) × Contains (entry_items (entries_of write.links)) p × (name_at (heap_of schema new) p ≡ Some pair.second))) ⊎ ((pair.link ≡ type_member tag member → pair.first ≡ name_in tag → ⊥) × (sets.contains graph.pairs pair ≡ true))
       forth pair e =
           let parts = and_parts (not (eq_by_cmp pair_cmp pair the_pair)) (sets.contains graph.pairs pair) (sym (got pair) ∙ e) in
           elim (at_set_or_not tag member pair) [
@@ -588,24 +603,30 @@ module _ (schema : Schema) (old new : List PageImage) (address member : ℕ) (ta
                 let other : held.0 ≢ pointer = λ same.
                 let second : pair.second ≡ name_of to = same_Some _ _ (sym held.2 ∙ ap (name_at (heap_of schema new)) same ∙ (item_named schema old new address member tag def before after graph holds write pointer to there).1) in
                 true≢false (sym (same_tied pair_cmp-IsTotalOrder pair the_pair (pair_is tag member (name_of to) pair at.0 at.1 second)) ∙ not-true _ parts.0) in
-                inl (at.0, at.1, (held.0, subst (λ es. Contains (items_of es) held.0) (sym write.after_is) ((spec held.0).1 (other, held.1)), held.2))
+                inl (at.0, at.1, (held.0, subst (λ es. Contains (entry_items es) held.0) (sym write.after_is) ((spec held.0).1 (other, held.1)), held.2))
             | inr off ↦ inr (off, parts.1)
           ]
 
-      here : (pair : Pair) → pair.link ≡ side_at tag member → pair.first ≡ name_in tag → ((p : ℕ) × Contains (items_of (entries_of write.links)) p × (name_at (heap_of schema new) p ≡ Some pair.second)) → sets.contains (sets.remove graph.pairs the_pair) pair ≡ true
+      here : (pair : Pair) → pair.link ≡ type_member tag member → pair.first ≡ name_in tag → ((p : ℕ) × Contains (entry_items (entries_of write.links)) p × (name_at (heap_of schema new) p ≡ Some pair.second)) → sets.contains (sets.remove graph.pairs the_pair) pair ≡ true
       here pair link first item =
-          let left = (spec item.0).0 (subst (λ es. Contains (items_of es) item.0) write.after_is item.1) in
+          let left = (spec item.0).0 (subst (λ es. Contains (entry_items es) item.0) write.after_is item.1) in
           stays pair
           (λ same. left.0 (own_name item.0 left.1 (sym (old_item schema old new address member tag def before after graph holds write item.0 left.1) ∙ item.2 ∙ ap (λ (p : Pair). Some p.second) same)))
           ((paired pair link first).1 (to_was pair.second item.0 left.1 item.2))
 
-      away : (pair : Pair) → (pair.link ≡ side_at tag member → pair.first ≡ name_in tag → ⊥) → sets.contains graph.pairs pair ≡ true → sets.contains (sets.remove graph.pairs the_pair) pair ≡ true
+      away : (pair : Pair) → (pair.link ≡ type_member tag member → pair.first ≡ name_in tag → ⊥) → sets.contains graph.pairs pair ≡ true → sets.contains (sets.remove graph.pairs the_pair) pair ≡ true
       away pair off e = stays pair (λ same. off (ap (λ (p : Pair). p.link) same) (ap (λ (p : Pair). p.first) same)) e
 
 pub inserts_law : LawOfInserts
-inserts_law schema old new address member tag def target before after pointer to graph holds write kind there spec =
-    insert_leaves schema old new address member tag def before after graph holds write target kind pointer to there spec
+inserts_law schema old new address member tag def target before after pointer to graph at holds write kind there spec found =
+    subst (λ a. LeavesGraph schema old new (with_joined schema graph a (name_of to))) (live_parts schema (name_in tag) (type_member tag member) at found).2
+    (subst (λ pairs. LeavesGraph schema old new (record graph { pairs = pairs }))
+    (sym (joined_by_set schema (type_member tag member) (name_in tag) (name_of to) graph.pairs def write.changes.defined write.alone (ap is_ref kind)))
+    (insert_leaves schema old new address member tag def before after graph holds write target kind pointer to there spec))
 
 pub removes_law : LawOfRemoves
-removes_law schema old new address member tag def target before after pointer to graph holds write kind there typed spec =
-    remove_leaves schema old new address member tag def before after graph holds write target kind pointer to there typed spec
+removes_law schema old new address member tag def target before after pointer to graph at holds write kind there typed spec found =
+    subst (λ (a : LiveMember). LeavesGraph schema old new (record graph { pairs = sets.remove graph.pairs (pair_at schema a.at a.owner (name_of to)) })) (live_parts schema (name_in tag) (type_member tag member) at found).2
+    (subst (λ pair. LeavesGraph schema old new (record graph { pairs = sets.remove graph.pairs pair }))
+    (sym (own_pair schema (type_member tag member) (name_in tag) (name_of to) graph.pairs def write.changes.defined write.alone))
+    (remove_leaves schema old new address member tag def before after graph holds write target kind pointer to there typed spec))

@@ -14,7 +14,8 @@ use Rattle.ostore_graph_model.specs.Chains.{IsIn, item_type, chunk_code, ChainLi
 use Rattle.ostore_graph_model.specs.Heap.{Heap, tag_at, code_at, links_at, live_cell, HasMember}
 use Rattle.ostore_graph_model.specs.HeapRules.{KeepsSerials, LeadsToChunk, HasGoodPointers, AreItemsOf, HasGoodEntries, KeepsPointers, IsWhole, IsLawfulChain, IsGoodCollection, HasOneOwner, KeepsChains, KeepsOwner, KeepsItems}
 use Rattle.ostore_graph_model.specs.Owners.{Owner, ChainHead, chain_head, Reaches, OwnsItems, OwnsIndexes, index_code, Owns, IsOwnedBy, object_of_owner}
-use Rattle.ostore_graph_model.specs.Records.{CollectionHead, Slot, ChunkEntry, IndexDescriptor, Links, RowTag, HeapCell}
+use Rattle.ostore_graph_model.specs.Chunks.{ChunkEntry, IndexDescriptor}
+use Rattle.ostore_graph_model.specs.Records.{CollectionHead, Slot, Links, RowTag, HeapCell}
 use Rattle.ostore_graph_model.specs.Collections.{ChangesCollection, IsChunkOf, LawOfCollections}
 use Rattle.ostore_graph_model.proofs.AddressLaws.{slice_get-set_same, slice_get-set_other}
 use Rattle.ostore_graph_model.proofs.HeapLaws.{chunk_code-IsNoType, code_of, links_are, member_elsewhere, owned_code, chunk_code_no_type}

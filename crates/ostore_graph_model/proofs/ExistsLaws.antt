@@ -6,7 +6,8 @@ use Rattle.std.specs.Ordering.{eq_by_cmp}
 use Rattle.std.specs.Cmp.{IsTotalOrder}
 use Rattle.std.specs.FinMap as maps
 use Rattle.std.specs.FinMap.Entries.{find}
-use Rattle.std.specs.FinSet as sets
+use Rattle.ostore_graph_model.specs.Sets as sets
+use Rattle.ostore_graph_model.proofs.SetFacts as set_facts
 use Rattle.std.proofs.lemmas.Bool.{cases_Bool, or_cases}
 use Rattle.std.proofs.lemmas.Option.{same_Some, none-some}
 use Rattle.ostore_graph_model.proofs.OrderLaws.{tied_same, same_tied}
@@ -68,4 +69,4 @@ module _ {K : Type 0} {R : K → K → Ordering} (o : IsTotalOrder R) (same : ma
 
   -- the set of a list answers its items and nothing else
   pub set_of_entries : (keys : List K) (k : K) → (sets.contains (sets.from_list {R = R} keys) k ≡ true) ↔ IsEntry k keys
-  set_of_entries keys k = (λ e. any_entry k keys (sym (sets.contains-from_list o keys k) ∙ e), λ there. sets.contains-from_list o keys k ∙ entry_any k keys there)
+  set_of_entries keys k = (λ e. any_entry k keys (sym (set_facts.contains-from_list o keys k) ∙ e), λ there. set_facts.contains-from_list o keys k ∙ entry_any k keys there)

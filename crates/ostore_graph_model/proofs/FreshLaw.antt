@@ -1,11 +1,12 @@
 -- A fresh list of pages is valid, and stands for the empty graph: no cell is in it, no root, and no serial is drawn.
-use Rattle.std.proofs.Common.{◌≡◌, ℕ, zero, suc, ◌+◌, ◌-◌, ◌*◌, ◌/◌, ◌%◌, ◌<◌, ◌≤◌, ◌++◌, Bool, true, false, cond, ltb, eqb, List, [], ◌∷◌, length, take, drop, map, replicate, refl, sym, ap, subst, ◌∙◌, arith, inl, inr, Option, Some, None, true≢false}
+use Rattle.std.proofs.Common.{◌≡◌, ℕ, zero, suc, ◌+◌, ◌-◌, ◌*◌, ◌/◌, ◌%◌, ◌<◌, ◌≤◌, ◌++◌, Bool, false, cond, ltb, eqb, List, [], ◌∷◌, length, take, drop, map, replicate, refl, sym, ap, subst, ◌∙◌, arith, inl, inr, Option, Some, None, true≢false}
 use Rattle.std.specs.List.{slice_get, range_with_len, find}
 use Rattle.std.specs.Prelude.{filter, not}
 use Rattle.std.specs.Option.{option_map, option_and_then}
 use Rattle.std.specs.Ordering.{nat_cmp}
 use Rattle.std.specs.FinMap as maps
-use Rattle.std.specs.FinSet as sets
+use Rattle.ostore_graph_model.specs.Sets as sets
+use Rattle.ostore_graph_model.proofs.SetFacts as set_facts
 use Rattle.std.proofs.lemmas.Bool.{cases_eq, cases_lt, lt-ltb, le-ltb, lt-leb, le-leb}
 use Rattle.std.proofs.lemmas.List.{append_assoc}
 use Rattle.std.proofs.lemmas.List.FromFn.{length-map-range_with_len, get_or-map-range_with_len}
@@ -27,8 +28,8 @@ use Rattle.ostore_page_tags.proofs.allocation.FreshPages.{fresh-allocated, fresh
 use Rattle.ostore_schema_layout.specs.declared.schema.Schema.{Schema}
 use Rattle.ostore_schema_layout.specs.declared.schema.MemberDef.{MemberDef}
 use Rattle.ostore_schema_layout.specs.Spells.{Spells}
-use Rattle.ostore_graph_model.specs.declared.values.Value.{Value}
-use Rattle.ostore_graph_model.specs.Orders.{name_cmp, pair_cmp, place_cmp, text_cmp, index_cmp}
+use Rattle.ostore_graph_model.specs.declared.values.Scalar.{Scalar}
+use Rattle.ostore_graph_model.specs.Orders.{name_cmp, pair_cmp, object_member_cmp, text_cmp, index_cmp}
 use Rattle.ostore_graph_model.specs.Graph.{empty_graph}
 use Rattle.ostore_graph_model.specs.Addresses.{placed, begins_at, cell_in, cell_at}
 use Rattle.ostore_graph_model.specs.FixedPages.{RootRow, root_at, is_unnamed, roots_of, first_page, serial_of}
@@ -94,25 +95,25 @@ module _ (schema : Schema) (heap : Heap) (nothing : (address : ℕ) → heap add
 
   -- and it shows nothing
 
-  pub no_objects : (values : ℕ → Option (List Value)) → ShowsObjects heap values maps.empty
+  pub no_objects : (values : ℕ → Option (List (Option Scalar))) → ShowsObjects heap values maps.empty
   no_objects values name object =
       (λ e. absurd (none-some object (sym (maps.get-empty name_cmp name) ∙ e)), λ has. absurd (no_cell has.address (live_cell has.tag (Links.Object has.slots)) has.stands.there))
 
   pub no_pairs : ShowsPairs schema heap sets.empty
   no_pairs pair = (
-    λ e. absurd (true≢false (sym e ∙ sets.contains-empty pair_cmp pair)),
+    λ e. absurd (true≢false (sym e ∙ set_facts.contains-empty pair_cmp pair)),
     λ has. let joins = has.joins in absurd (no_member joins.address pair.link.member.0 joins.tag joins.def joins.slot joins.has),
   )
 
   pub no_lists : ShowsLists schema heap maps.empty
   no_lists place names = (
-    λ e. absurd (none-some names (sym (maps.get-empty place_cmp place) ∙ e)),
+    λ e. absurd (none-some names (sym (maps.get-empty object_member_cmp place) ∙ e)),
     λ has. let c = has.has in absurd (no_member c.address place.member.0 c.tag c.def (Slot.Begins c.head) c.has),
   )
 
   pub no_dictionaries : ShowsDictionaries schema heap maps.empty
   no_dictionaries place dictionary = (
-    λ e. absurd (none-some dictionary (sym (maps.get-empty place_cmp place) ∙ e)),
+    λ e. absurd (none-some dictionary (sym (maps.get-empty object_member_cmp place) ∙ e)),
     λ has. let c = has.has in absurd (no_member c.address place.member.0 c.tag c.def (Slot.Begins c.head) c.has),
   )
 
@@ -124,7 +125,7 @@ module _ (schema : Schema) (heap : Heap) (nothing : (address : ℕ) → heap add
 
   pub no_indexes : ShowsIndexes schema heap sets.empty
   no_indexes index = (
-    λ e. absurd (true≢false (sym e ∙ sets.contains-empty index_cmp index)),
+    λ e. absurd (true≢false (sym e ∙ set_facts.contains-empty index_cmp index)),
     λ has. absurd (no_member has.address index.set.member.0 has.tag has.def (Slot.Begins has.head) has.has),
   )
 

@@ -6,7 +6,7 @@ use Rattle.std.specs.Option.{option_map, option_and_then}
 use Rattle.std.specs.declared.cmp.Ordering.{Ordering}
 use Rattle.std.specs.Cmp.{IsTotalOrder}
 use Rattle.std.specs.FinMap as maps
-use Rattle.std.specs.FinSet as sets
+use Rattle.ostore_graph_model.specs.Sets as sets
 use Rattle.std.specs.FinMap.{IsAntisymmetric, nat_cmp-IsAntisymmetric, slice_cmp-IsAntisymmetric}
 use Rattle.std.proofs.lemmas.Bool.{cases_eq}
 use Rattle.std.proofs.lemmas.Cmp.{nat_cmp_total, nat_list_cmp_total}
@@ -18,7 +18,7 @@ use Rattle.ostore_schema_layout.specs.Cells.{ArePairwise}
 use Rattle.ostore_schema_layout.specs.Numbers.{members_of}
 use Rattle.ostore_graph_model.specs.declared.values.Name.{Name}
 use Rattle.ostore_graph_model.specs.declared.commands.Key.{Key}
-use Rattle.ostore_graph_model.specs.Orders.{Place, PathIndex, place_cmp, key_cmp, text_cmp, index_cmp}
+use Rattle.ostore_graph_model.specs.Orders.{ObjectMember, PathIndex, object_member_cmp, key_cmp, text_cmp, index_cmp}
 use Rattle.ostore_graph_model.specs.Graph.{Graph}
 use Rattle.ostore_graph_model.specs.Chains.{chunk_code, item_type, ChainLink, IsChain, entries_of, indexes_of}
 use Rattle.ostore_graph_model.specs.FixedPages.{RootRow, roots_of, first_page, serial_of}
@@ -26,12 +26,13 @@ use Rattle.ostore_graph_model.specs.Heap.{Heap, name_at, name_in, code_at, HasMe
 use Rattle.ostore_graph_model.specs.HeapRules.{KeepsPointers, KeepsItems, KeepsChains, KeepsRoots}
 use Rattle.ostore_graph_model.specs.MemberValues.{values_of}
 use Rattle.ostore_graph_model.specs.Owners.{Owner, chain_head}
-use Rattle.ostore_graph_model.specs.Records.{CollectionHead, Slot, ChunkEntry, IndexDescriptor, RowTag, HeapCell, heap_of}
+use Rattle.ostore_graph_model.specs.Chunks.{ChunkEntry, IndexDescriptor}
+use Rattle.ostore_graph_model.specs.Records.{CollectionHead, Slot, RowTag, HeapCell, heap_of}
 use Rattle.ostore_graph_model.specs.StandsFor.{HasRoot, HasCollection, HasList, Binds, HasDictionary, HasIndex, ShowsRoots, ShowsSerials, ShowsLists, ShowsDictionaries, ShowsIndexes, StandsFor}
 use Rattle.ostore_graph_model.specs.Valid.{HasGoodCells}
 use Rattle.ostore_page_tags.specs.PageLists.{header_at}
 use Rattle.ostore_graph_model.proofs.PageLaws.{first_within}
-use Rattle.ostore_graph_model.proofs.OrderLaws.{place_cmp-IsTotalOrder, place_cmp-IsAntisymmetric, index_cmp-IsTotalOrder, index_cmp-IsAntisymmetric}
+use Rattle.ostore_graph_model.proofs.OrderLaws.{object_member_cmp-IsTotalOrder, object_member_cmp-IsAntisymmetric, index_cmp-IsTotalOrder, index_cmp-IsAntisymmetric}
 use Rattle.ostore_graph_model.proofs.KeyLaws.{key_cmp-IsTotalOrder, key_cmp-IsAntisymmetric}
 use Rattle.ostore_graph_model.proofs.ObjectLaws.{AreNamesOwn, names_own, named_object}
 use Rattle.ostore_graph_model.proofs.ReferenceLaws.{same_tags, same_slots}
@@ -282,12 +283,12 @@ module _ (schema : Schema) (heap : Heap) (count : ℕ) (bounded : (address : ℕ
 
     -- ---- collections
 
-    collection_member : (address m : ℕ) (place : Place) (code : ℕ) (entries : List ChunkEntry) (has : HasCollection schema heap place code entries) → has.address ≡ address → place.member.0 ≡ m → HasMember schema heap address m has.tag has.def (Slot.Begins has.head)
+    collection_member : (address m : ℕ) (place : ObjectMember) (code : ℕ) (entries : List ChunkEntry) (has : HasCollection schema heap place code entries) → has.address ≡ address → place.member.0 ≡ m → HasMember schema heap address m has.tag has.def (Slot.Begins has.head)
     collection_member address m place code entries has at is = subst (λ a. HasMember schema heap a m has.tag has.def (Slot.Begins has.head)) at (subst (λ n. HasMember schema heap has.address n has.tag has.def (Slot.Begins has.head)) is has.has)
 
     -- a collection at a member is the member's chain
     collection_is : (address m : ℕ) (tag : RowTag) (def : MemberDef) (head : CollectionHead) → HasMember schema heap address m tag def (Slot.Begins head) → (chain : List ChainLink) → IsChain heap (chunk_code def.kind) tag.segment head.first chain
-        → (place : Place) (code : ℕ) (entries : List ChunkEntry) (c : HasCollection schema heap place code entries) → c.address ≡ address → place.member.0 ≡ m
+        → (place : ObjectMember) (code : ℕ) (entries : List ChunkEntry) (c : HasCollection schema heap place code entries) → c.address ≡ address → place.member.0 ≡ m
         → (place ≡ record { object = name_in tag; member = record { 0 = m } }) × (entries ≡ entries_of chain) × (chunk_code def.kind ≡ code)
     collection_is address m tag def head has chain linked place code entries c at is =
         let same = member_same schema heap address m c.tag tag c.def def (Slot.Begins c.head) (Slot.Begins head) (collection_member address m place code entries c at is) has in
@@ -312,7 +313,7 @@ module _ (schema : Schema) (heap : Heap) (count : ℕ) (bounded : (address : ℕ
     }
 
     -- two collections of one place and code are one
-    pub same_entries : (place : Place) (code other : ℕ) (one two : List ChunkEntry) → HasCollection schema heap place code one → HasCollection schema heap place other two → one ≡ two
+    pub same_entries : (place : ObjectMember) (code other : ℕ) (one two : List ChunkEntry) → HasCollection schema heap place code one → HasCollection schema heap place other two → one ≡ two
     same_entries place code other one two first second =
         let at = named_object heap first.address second.address first.tag second.tag (first.has).slots (second.has).slots own (first.has).object (second.has).object (second.named ∙ sym first.named) in
         let good = (chains first.address).collections place.member.0 first.tag first.def first.head first.has in
@@ -322,10 +323,10 @@ module _ (schema : Schema) (heap : Heap) (count : ℕ) (bounded : (address : ℕ
     -- ---- lists
 
     module _ (pointers : (address : ℕ) → KeepsPointers schema heap address) (items : (address : ℕ) → KeepsItems heap address) where
-      IsListAt : ℕ → ℕ → (Place × List Name) → Type 0
+      IsListAt : ℕ → ℕ → (ObjectMember × List Name) → Type 0
       IsListAt address m e = (h : HasList schema heap e.0 e.1) × ((h.has).address ≡ address) × ((e.0).member.0 ≡ m)
 
-      list_member : (address m : ℕ) (e : Place × List Name) (h : HasList schema heap e.0 e.1) → (h.has).address ≡ address → (e.0).member.0 ≡ m → HasMember schema heap address m (h.has).tag (h.has).def (Slot.Begins (h.has).head)
+      list_member : (address m : ℕ) (e : ObjectMember × List Name) (h : HasList schema heap e.0 e.1) → (h.has).address ≡ address → (e.0).member.0 ≡ m → HasMember schema heap address m (h.has).tag (h.has).def (Slot.Begins (h.has).head)
       list_member address m e h at is = collection_member address m e.0 241 h.entries h.has at is
 
       lists_each : (address m : ℕ) (tag : RowTag) (def : MemberDef) (slot : Slot) → HasMember schema heap address m tag def slot → IsFinite (IsListAt address m)
@@ -350,15 +351,15 @@ module _ (schema : Schema) (heap : Heap) (count : ℕ) (bounded : (address : ℕ
             | inr other ↦ finite_none (IsListAt address m) (λ e h. other (is e.0 241 (h.0).entries (h.0).has h.1 h.2).2)
           ]
 
-      lists_exist : (lists : maps.FinMap place_cmp (List Name)) × ShowsLists schema heap lists
+      lists_exist : (lists : maps.FinMap object_member_cmp (List Name)) × ShowsLists schema heap lists
       unfolding IsListAt
-      lists_exist = finite_map place_cmp-IsTotalOrder place_cmp-IsAntisymmetric (HasList schema heap)
-          (finite_iff (λ (e : Place × List Name). (address : ℕ) × (m : ℕ) × IsListAt address m e) (λ (e : Place × List Name). HasList schema heap e.0 e.1)
+      lists_exist = finite_map object_member_cmp-IsTotalOrder object_member_cmp-IsAntisymmetric (HasList schema heap)
+          (finite_iff (λ (e : ObjectMember × List Name). (address : ℕ) × (m : ℕ) × IsListAt address m e) (λ (e : ObjectMember × List Name). HasList schema heap e.0 e.1)
           (λ e. (λ h. (h.2).0, λ has. ((has.has).address, (e.0).member.0, (has, refl, refl))))
           (all_finite IsListAt (λ address m e h. (((h.0).has).tag, ((h.0).has).def, Slot.Begins ((h.0).has).head, list_member address m e h.0 h.1 h.2)) lists_each))
           one
         where
-          one : (place : Place) (x y : List Name) → HasList schema heap place x → HasList schema heap place y → x ≡ y
+          one : (place : ObjectMember) (x y : List Name) → HasList schema heap place x → HasList schema heap place y → x ≡ y
           one place x y first second =
               let same = same_entries place 241 241 first.entries second.entries first.has second.has in
               same_names x y (sym first.named ∙ ap (map (λ (entry : ChunkEntry). name_at heap entry.item)) same ∙ second.named)
@@ -392,10 +393,10 @@ module _ (schema : Schema) (heap : Heap) (count : ℕ) (bounded : (address : ℕ
           let same = distinct_entries (λ (entry : ChunkEntry). entry.key) entries first.1 second.1 apart ((entry_contains first.1 entries).1 (first.0, first.2, first.3)) ((entry_contains second.1 entries).1 (second.0, second.2, second.3)) (first.4.0 ∙ sym second.4.0) in
           same_Some x y (sym first.4.1 ∙ ap (λ (entry : ChunkEntry). name_at heap entry.item) same ∙ second.4.1))
 
-      IsDictionaryAt : ℕ → ℕ → (Place × maps.FinMap key_cmp Name) → Type 0
+      IsDictionaryAt : ℕ → ℕ → (ObjectMember × maps.FinMap key_cmp Name) → Type 0
       IsDictionaryAt address m e = (h : HasDictionary schema heap e.0 e.1) × ((h.has).address ≡ address) × ((e.0).member.0 ≡ m)
 
-      dictionary_member : (address m : ℕ) (e : Place × maps.FinMap key_cmp Name) (h : HasDictionary schema heap e.0 e.1) → (h.has).address ≡ address → (e.0).member.0 ≡ m → HasMember schema heap address m (h.has).tag (h.has).def (Slot.Begins (h.has).head)
+      dictionary_member : (address m : ℕ) (e : ObjectMember × maps.FinMap key_cmp Name) (h : HasDictionary schema heap e.0 e.1) → (h.has).address ≡ address → (e.0).member.0 ≡ m → HasMember schema heap address m (h.has).tag (h.has).def (Slot.Begins (h.has).head)
       dictionary_member address m e h at is = collection_member address m e.0 h.code h.entries h.has at is
 
       one_dictionary : (entries other : List ChunkEntry) → entries ≡ other → (x y : maps.FinMap key_cmp Name) → ((key : Key) (name : Name) → (maps.get x key ≡ Some name) ↔ Any (Binds heap key name) entries) → ((key : Key) (name : Name) → (maps.get y key ≡ Some name) ↔ Any (Binds heap key name) other) → x ≡ y
@@ -433,10 +434,10 @@ module _ (schema : Schema) (heap : Heap) (count : ℕ) (bounded : (address : ℕ
             | inr other ↦ finite_none (IsDictionaryAt address m) (λ e h. other (subst (λ k. (k ≡ 242) ⊎ (k ≡ 243)) (sym (is e.0 (h.0).code (h.0).entries (h.0).has h.1 h.2).2) (h.0).keyed))
           ]
 
-      dictionaries_exist : (dictionaries : maps.FinMap place_cmp (maps.FinMap key_cmp Name)) × ShowsDictionaries schema heap dictionaries
+      dictionaries_exist : (dictionaries : maps.FinMap object_member_cmp (maps.FinMap key_cmp Name)) × ShowsDictionaries schema heap dictionaries
       unfolding IsDictionaryAt
-      dictionaries_exist = finite_map place_cmp-IsTotalOrder place_cmp-IsAntisymmetric (HasDictionary schema heap)
-          (finite_iff (λ (e : Place × maps.FinMap key_cmp Name). (address : ℕ) × (m : ℕ) × IsDictionaryAt address m e) (λ (e : Place × maps.FinMap key_cmp Name). HasDictionary schema heap e.0 e.1)
+      dictionaries_exist = finite_map object_member_cmp-IsTotalOrder object_member_cmp-IsAntisymmetric (HasDictionary schema heap)
+          (finite_iff (λ (e : ObjectMember × maps.FinMap key_cmp Name). (address : ℕ) × (m : ℕ) × IsDictionaryAt address m e) (λ (e : ObjectMember × maps.FinMap key_cmp Name). HasDictionary schema heap e.0 e.1)
           (λ e. (λ h. (h.2).0, λ has. ((has.has).address, (e.0).member.0, (has, refl, refl))))
           (all_finite IsDictionaryAt (λ address m e h. (((h.0).has).tag, ((h.0).has).def, Slot.Begins ((h.0).has).head, dictionary_member address m e h.0 h.1 h.2)) dictionaries_each))
           (λ place x y first second. one_dictionary first.entries second.entries (same_entries place first.code second.code first.entries second.entries first.has second.has) x y first.bound second.bound)

@@ -4,7 +4,7 @@ use Rattle.std.specs.Prelude.{◌/◌, ◌%◌}
 use Rattle.std.specs.List.{slice_get, Contains}
 use Rattle.std.specs.Option.{option_map, option_and_then}
 use Rattle.std.specs.FinMap as maps
-use Rattle.std.specs.FinSet as sets
+use Rattle.ostore_graph_model.specs.Sets as sets
 use Rattle.std.proofs.lemmas.Bool.{cases_Bool, cases_lt, cases_eq}
 use Rattle.std.proofs.lemmas.Option.{same_Some, none-some, slice_get_within, slice_get_past}
 use Rattle.ostore_base.specs.declared.page.PageImage.{PageImage}
@@ -15,16 +15,17 @@ use Rattle.ostore_schema_layout.specs.declared.schema.TypeNo.{TypeNo}
 use Rattle.ostore_schema_layout.specs.Numbers.{members_of}
 use Rattle.ostore_schema_layout.specs.Lawful.{link_target}
 use Rattle.ostore_graph_model.specs.declared.values.Name.{Name}
-use Rattle.ostore_graph_model.specs.declared.values.Value.{Value}
-use Rattle.ostore_graph_model.specs.Orders.{Side, Pair, name_cmp, pair_cmp}
+use Rattle.ostore_graph_model.specs.declared.values.Scalar.{Scalar}
+use Rattle.ostore_graph_model.specs.Orders.{TypeMember, Pair, name_cmp, pair_cmp}
 use Rattle.ostore_graph_model.specs.Graph.{Object}
 use Rattle.ostore_graph_model.specs.Addresses.{cell_at, cell_in}
 use Rattle.ostore_graph_model.specs.Chains.{chunk_code, entries_of, LeadsTo}
 use Rattle.ostore_graph_model.specs.Heap.{Heap, name_at, name_in, IsObject, HasMember}
 use Rattle.ostore_graph_model.specs.HeapRules.{KeepsChains}
-use Rattle.ostore_graph_model.specs.Records.{Slot, ChunkEntry, Links, RowTag, HeapCell, heap_cell, heap_of}
-use Rattle.ostore_graph_model.specs.Sides.{comes_first, IsLink}
-use Rattle.ostore_graph_model.specs.StandsFor.{HasPair, HasObject, ShowsObjects, ShowsPairs}
+use Rattle.ostore_graph_model.specs.Chunks.{ChunkEntry}
+use Rattle.ostore_graph_model.specs.Records.{Slot, Links, RowTag, HeapCell, heap_cell, heap_of}
+use Rattle.ostore_graph_model.specs.Links.{comes_first}
+use Rattle.ostore_graph_model.specs.StandsFor.{IsLink, HasPair, HasObject, ShowsObjects, ShowsPairs}
 use Rattle.ostore_graph_model.proofs.OrderLaws.{name_cmp-IsTotalOrder, name_cmp-IsAntisymmetric, pair_cmp-IsTotalOrder, pair_cmp-IsAntisymmetric}
 use Rattle.ostore_graph_model.proofs.ObjectLaws.{Values, AreNamesOwn, named_object, same_object}
 use Rattle.ostore_graph_model.proofs.ReferenceLaws.{same_tags, same_slots}
@@ -82,7 +83,7 @@ module _ (schema : Schema) (heap : Heap) where
       | inr none ↦ finite_none (IsObjectAt address) (λ entry h. none h.0 h.1 h.2)
     ]
       where
-        with_values : (tag : RowTag) (slots : List Slot) → IsObject heap address tag slots → (held : Option (List Value)) → values address ≡ held → IsFinite (IsObjectAt address)
+        with_values : (tag : RowTag) (slots : List Slot) → IsObject heap address tag slots → (held : Option (List (Option Scalar))) → values address ≡ held → IsFinite (IsObjectAt address)
         with_values tag slots object None e = finite_none (IsObjectAt address) (λ entry h. none-some _ (sym e ∙ h.5))
         with_values tag slots object (Some held) e =
             finite_one (IsObjectAt address) (name_in tag, record { ty = record { 0 = tag.code }; values = held }) (tag, slots, object, refl, refl, e) (λ entry h.
@@ -117,7 +118,7 @@ module _ (schema : Schema) (heap : Heap) where
             let tags = same_object heap b.address a.address b.tag a.tag b.slots a.slots at b.stands a.stands in
             let ty = sym a.ty ∙ ap (λ (t : RowTag). t.code) (sym tags) ∙ b.ty in
             let values_are = same_Some _ _ (sym a.held ∙ ap values (sym at) ∙ b.held) in
-            ap₂ (λ (t : ℕ) (v : List Value). record { ty = record { 0 = t }; values = v }) ty values_are
+            ap₂ (λ (t : ℕ) (v : List (Option Scalar)). record { ty = record { 0 = t }; values = v }) ty values_are
 
   -- ---- pairs
 
@@ -149,7 +150,7 @@ module _ (schema : Schema) (heap : Heap) where
       ))
       (finite_list (map (λ (entry : ChunkEntry). entry.item) (entries_of good.chain)))
 
-  link_or_not : (side : Side) → IsLink schema side ⊎ (IsLink schema side → ⊥)
+  link_or_not : (side : TypeMember) → IsLink schema side ⊎ (IsLink schema side → ⊥)
   link_or_not side = with_def (slice_get (members_of schema side.ty.0) side.member.0) refl
     where
       with_def : (found : Option MemberDef) → slice_get (members_of schema side.ty.0) side.member.0 ≡ found → IsLink schema side ⊎ (IsLink schema side → ⊥)
@@ -242,8 +243,8 @@ module _ (schema : Schema) (heap : Heap) where
                 tag = h.tag;
                 def = h.def;
                 slot = h.slot;
-                has = subst (λ (s : Side). HasMember schema heap address s.member.0 h.tag h.def h.slot) (sym parts.0) h.has;
-                ty = sym (ap (λ (s : Side). s.ty.0) parts.0);
+                has = subst (λ (s : TypeMember). HasMember schema heap address s.member.0 h.tag h.def h.slot) (sym parts.0) h.has;
+                ty = sym (ap (λ (s : TypeMember). s.ty.0) parts.0);
                 from = sym parts.1;
                 pointer = h.pointer;
                 leads = h.leads;

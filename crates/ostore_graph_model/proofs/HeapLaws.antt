@@ -15,7 +15,8 @@ use Rattle.ostore_graph_model.specs.Chains.{item_type, chunk_code, ChainLink, ne
 use Rattle.ostore_graph_model.specs.Heap.{Heap, code_at, links_at, HasMember}
 use Rattle.ostore_graph_model.specs.HeapRules.{LeadsToChunk, HasGoodPointers, KeepsPointers, KeepsChains, KeepsOwner, KeepsItems, KeepsLinks}
 use Rattle.ostore_graph_model.specs.Owners.{Owner, ChainHead, IsWalk, Reaches, index_code, Owns, IsOwnedBy}
-use Rattle.ostore_graph_model.specs.Records.{CollectionHead, Slot, ChunkEntry, IndexDescriptor, Links, RowTag, HeapCell}
+use Rattle.ostore_graph_model.specs.Chunks.{ChunkEntry, IndexDescriptor}
+use Rattle.ostore_graph_model.specs.Records.{CollectionHead, Slot, Links, RowTag, HeapCell}
 
 -- ---- codes of chunks
 

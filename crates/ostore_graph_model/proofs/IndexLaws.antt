@@ -1,7 +1,8 @@
 -- Where a graph has no indexes, nothing is asked of them.
 use Rattle.std.proofs.Common.{◌≡◌, ℕ, ◌<◌, List, [], ◌∷◌, length, map, take, refl, sym, subst, ◌∙◌, arith, true≢false, get_or, ◌≢◌}
 use Rattle.std.specs.List.{All}
-use Rattle.std.specs.FinSet as sets
+use Rattle.ostore_graph_model.specs.Sets as sets
+use Rattle.ostore_graph_model.proofs.SetFacts as set_facts
 use Rattle.ostore_schema_layout.specs.declared.schema.Schema.{Schema}
 use Rattle.ostore_schema_layout.specs.declared.schema.MemberDef.{MemberDef}
 use Rattle.ostore_schema_layout.specs.Cells.{descriptor_code, ArePairwise}
@@ -10,14 +11,15 @@ use Rattle.ostore_graph_model.specs.Graph.{Graph}
 use Rattle.ostore_graph_model.specs.Chains.{ChainLink, IsChain, indexes_of}
 use Rattle.ostore_graph_model.specs.Heap.{Heap, name_in, HasMember}
 use Rattle.ostore_graph_model.specs.IndexRules.{KeepsIndexes, IsGoodIndex, used_steps}
-use Rattle.ostore_graph_model.specs.Records.{CollectionHead, Slot, IndexDescriptor, RowTag}
+use Rattle.ostore_graph_model.specs.Chunks.{IndexDescriptor}
+use Rattle.ostore_graph_model.specs.Records.{CollectionHead, Slot, RowTag}
 use Rattle.ostore_graph_model.specs.StandsFor.{HasIndex, ShowsIndexes}
 use Rattle.ostore_graph_model.specs.LawsOfMeaning.{LawOfNoIndexes}
 use Rattle.ostore_graph_model.specs.Records.{heap_of}
 
 module _ (schema : Schema) (heap : Heap) (shown : ShowsIndexes schema heap sets.empty) where
   nothing : (index : PathIndex) → HasIndex schema heap index → ⊥
-  nothing index has = true≢false (sym ((shown index).1 has) ∙ sets.contains-empty index_cmp index)
+  nothing index has = true≢false (sym ((shown index).1 has) ∙ set_facts.contains-empty index_cmp index)
 
   none_along : (address member : ℕ) (tag : RowTag) (def : MemberDef) (head : CollectionHead) (chain : List ChainLink) → HasMember schema heap address member tag def (Slot.Begins head)
       → IsChain heap descriptor_code tag.segment head.descriptor chain → (all : List IndexDescriptor) → all ≡ indexes_of chain → indexes_of chain ≡ []

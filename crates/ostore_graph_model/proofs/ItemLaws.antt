@@ -8,7 +8,8 @@ use Rattle.ostore_graph_model.specs.Chains.{item_type, chunk_code, ChainLink, ne
 use Rattle.ostore_graph_model.specs.Heap.{Heap, code_at, links_at, live_cell, HasMember}
 use Rattle.ostore_graph_model.specs.HeapRules.{KeepsPointers, KeepsItems}
 use Rattle.ostore_graph_model.specs.Owners.{Owner, ChainHead, chain_head, IsWalk, Owns}
-use Rattle.ostore_graph_model.specs.Records.{CollectionHead, Slot, ChunkEntry, Links, RowTag}
+use Rattle.ostore_graph_model.specs.Chunks.{ChunkEntry}
+use Rattle.ostore_graph_model.specs.Records.{CollectionHead, Slot, Links, RowTag}
 use Rattle.ostore_graph_model.proofs.HeapLaws.{code_of, links_are}
 
 -- a walk goes on over the cell that it came to

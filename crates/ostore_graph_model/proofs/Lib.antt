@@ -41,4 +41,6 @@ pub mod CollectionGraphs
 pub mod AscentLaws
 pub mod FreshLaw
 pub mod SideLaws
+pub mod SetFacts
+pub mod JoinedFacts
 pub mod SizeLaw

@@ -9,9 +9,10 @@ use Rattle.ostore_schema_layout.specs.declared.schema.MemberKind.{MemberKind}
 use Rattle.ostore_schema_layout.specs.declared.schema.MemberKind.TheVariants as kinds
 use Rattle.ostore_schema_layout.specs.declared.layouts.Place.{Place}
 use Rattle.ostore_schema_layout.specs.Cells.{in_fours, kind_size, place_end, places_from, sizes}
-use Rattle.ostore_graph_model.specs.declared.values.Value.TheVariants as values
-use Rattle.ostore_graph_model.specs.MemberValues.{text_at, value_of, value_in}
-use Rattle.ostore_graph_model.specs.Records.{pointer_at, Slot, head_at, slot_of, slot_in}
+use Rattle.ostore_graph_model.specs.declared.values.Scalar.TheVariants as scalars
+use Rattle.ostore_graph_model.specs.MemberValues.{text_at, held_at, value_in}
+use Rattle.ostore_graph_model.specs.Chunks.{pointer_at}
+use Rattle.ostore_graph_model.specs.Records.{Slot, head_at, slot_of, slot_in}
 
 -- ---- what is read from a member's own bytes
 
@@ -28,19 +29,19 @@ text_at-same at max new old whole within same =
 pub text_room : (max : ℕ) → 1 + max ≤ in_fours (1 + max)
 text_room max = omega arith
 
-value_of-same : (new old : List ℕ) (at : ℕ) (kind : MemberKind) → length new ≡ length old → at + kind_size kind ≤ length old → SameOn at (at + kind_size kind) new old → value_of new at kind ≡ value_of old at kind
-value_of-same new old at kinds.Int whole within same = ap (λ n. values.Int (cast_signed w64 n)) (number_at-same 8 at new old same)
-value_of-same new old at (kinds.Text max) whole within same =
+held_at-same : (new old : List ℕ) (at : ℕ) (kind : MemberKind) → length new ≡ length old → at + kind_size kind ≤ length old → SameOn at (at + kind_size kind) new old → held_at new at kind ≡ held_at old at kind
+held_at-same new old at kinds.Int whole within same = ap (λ n. Some (scalars.Int (cast_signed w64 n))) (number_at-same 8 at new old same)
+held_at-same new old at (kinds.Text max) whole within same =
     let room = text_room max in
-    ap values.Text (text_at-same at max new old whole (omega arith) (SameOn-within at (at + in_fours (1 + max)) at (at + 1 + max) new old same (omega arith) (omega arith)))
-value_of-same new old at (kinds.Ref target) whole within same = refl
-value_of-same new old at (kinds.Set target) whole within same = refl
-value_of-same new old at (kinds.List target) whole within same = refl
-value_of-same new old at (kinds.DictInt target) whole within same = refl
-value_of-same new old at (kinds.DictText target) whole within same = refl
+    ap (λ t. Some (scalars.Text t)) (text_at-same at max new old whole (omega arith) (SameOn-within at (at + in_fours (1 + max)) at (at + 1 + max) new old same (omega arith) (omega arith)))
+held_at-same new old at (kinds.Ref target) whole within same = refl
+held_at-same new old at (kinds.Set target) whole within same = refl
+held_at-same new old at (kinds.List target) whole within same = refl
+held_at-same new old at (kinds.DictInt target) whole within same = refl
+held_at-same new old at (kinds.DictText target) whole within same = refl
 
 pub value_in-IsLocal : IsLocal value_in
-value_in-IsLocal new old place whole within same = value_of-same new old place.offset place.kind whole within same
+value_in-IsLocal new old place whole within same = held_at-same new old place.offset place.kind whole within same
 
 head_at-same : (at size descriptor : ℕ) (new old : List ℕ) → 8 ≤ size → SameOn at (at + size) new old → head_at at descriptor new ≡ head_at at descriptor old
 head_at-same at size descriptor new old room same =

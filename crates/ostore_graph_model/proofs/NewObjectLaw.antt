@@ -1,5 +1,5 @@
 -- A new object: a serial is drawn, and a cell of zeros is added with it.
-use Rattle.std.proofs.Common.{◌≡◌, ◌≢◌, ℕ, ◌+◌, ◌<◌, ◌≤◌, ◌||◌, Bool, true, false, zero, suc, List, length, map, replicate, refl, sym, ap, subst, subst₂, ◌∙◌, arith, Some, None, inl, inr, add-one}
+use Rattle.std.proofs.Common.{◌≡◌, ◌≢◌, ℕ, ◌+◌, ◌<◌, ◌≤◌, ◌||◌, Bool, true, false, zero, suc, List, length, map, replicate, refl, sym, ap, subst, subst₂, ◌∙◌, arith, Some, None, inl, inr, add-one, Option}
 use Rattle.std.specs.List.{slice_get}
 use Rattle.std.specs.Option.{option_map}
 use Rattle.std.specs.FinMap as maps
@@ -15,9 +15,9 @@ use Rattle.ostore_schema_layout.specs.declared.schema.MemberDef.{MemberDef}
 use Rattle.ostore_schema_layout.specs.Cells.{places_from, cell_size, code_size}
 use Rattle.ostore_schema_layout.specs.Numbers.{members_of, members_of_found}
 use Rattle.ostore_graph_model.specs.declared.values.Name.{Name}
-use Rattle.ostore_graph_model.specs.declared.values.Value.{Value}
+use Rattle.ostore_graph_model.specs.declared.values.Scalar.{Scalar}
 use Rattle.ostore_graph_model.specs.Graph.{Graph, Object, last_serial}
-use Rattle.ostore_graph_model.specs.Step.{first_value, new_object, next_name, drawn}
+use Rattle.ostore_graph_model.specs.Deeds.Objects.{first_value, new_object, next_name, with_new}
 use Rattle.ostore_graph_model.specs.Addresses.{PlacedCell, cell_at}
 use Rattle.ostore_graph_model.specs.CellRules.{is_written}
 use Rattle.ostore_graph_model.specs.FixedPages.{roots_of, serial_of}
@@ -117,7 +117,7 @@ module _ (schema : Schema) (old new : List PageImage) (address segment serial pl
   unfolding heap_of
   links_other other apart = ap (option_map (heap_cell schema)) (cell_other other apart)
 
-  abbrev held : List Value
+  abbrev held : List (Option Scalar)
   held = map (λ (member : MemberDef). first_value member.kind) ty.members
 
   values_new : values_of schema new address ≡ Some held
@@ -206,7 +206,7 @@ module _ (schema : Schema) (old new : List PageImage) (address segment serial pl
         }
 
 pub new_law : LawOfNewObjects
-new_law schema old drawing new address segment place ty vars to graph holds there few draws adds =
+new_law schema old drawing new address segment place ty graph holds there few draws adds =
     let pages = holds.pages_kept in
     let middle = draw_holds schema old drawing segment draws pages graph holds in
     let same = drawn_links schema old drawing segment draws pages in
@@ -222,7 +222,7 @@ new_law schema old drawing new address segment place ty vars to graph holds ther
     let name : record { segment = segment; serial = serial_of old segment + 1 } ≡ next_name graph segment = ap (λ (n : ℕ). record { segment = segment; serial = n + 1 }) (sym last) in
     let object_is : record { ty = record { 0 = place + 1 }; values = map (λ (member : MemberDef). first_value member.kind) ty.members } ≡ new_object schema (record { 0 = place + 1 }) =
     ap (λ (members : List MemberDef). record { ty = record { 0 = place + 1 }; values = map (λ (member : MemberDef). first_value member.kind) members }) (sym (members_at schema place ty there)) in
-    let whole : LeavesGraph schema drawing new (drawn vars graph to segment (new_object schema (record { 0 = place + 1 }))).graph = subst₂ (λ (n : Name) (o : Object). LeavesGraph schema drawing new (record graph {
+    let whole : LeavesGraph schema drawing new (with_new graph segment (new_object schema (record { 0 = place + 1 }))) = subst₂ (λ (n : Name) (o : Object). LeavesGraph schema drawing new (record graph {
       objects = maps.insert graph.objects n o;
       serials = maps.insert graph.serials segment (last_serial graph segment + 1);
     })) name object_is after in

@@ -7,7 +7,7 @@ use Rattle.std.proofs.lemmas.Bool.{cases_eq, cases_Bool}
 use Rattle.std.proofs.lemmas.Option.{same_Some}
 use Rattle.ostore_page_tags.specs.Rules.{is_type_code}
 use Rattle.ostore_graph_model.specs.declared.values.Name.{Name}
-use Rattle.ostore_graph_model.specs.declared.values.Value.{Value}
+use Rattle.ostore_graph_model.specs.declared.values.Scalar.{Scalar}
 use Rattle.ostore_graph_model.specs.Orders.{name_cmp}
 use Rattle.ostore_graph_model.specs.Graph.{Object}
 use Rattle.ostore_graph_model.specs.Heap.{Heap, tag_at, name_in, IsObject}
@@ -17,7 +17,7 @@ use Rattle.ostore_graph_model.specs.StandsFor.{HasObject, ShowsObjects}
 use Rattle.ostore_graph_model.proofs.OrderLaws.{name_cmp-IsTotalOrder, name_cmp-IsAntisymmetric, tied_same, same_tied, apart_tied}
 
 abbrev pub Values : Type 0
-Values = ℕ → Option (List Value)
+Values = ℕ → Option (List (Option Scalar))
 
 -- a name is that of one row
 abbrev pub AreNamesOwn : Heap → Type 0
@@ -38,12 +38,12 @@ pub named_object : (heap : Heap) (a b : ℕ) (tag also : RowTag) (slots held : L
 named_object heap a b tag also slots held own one two same =
     own a b tag also (tag_of_cell heap a _ one.there) one.typed (tag_of_cell heap b _ two.there) two.typed same
 
-abbrev pub object_with : RowTag → List Value → Object
+abbrev pub object_with : RowTag → List (Option Scalar) → Object
 object_with tag values = record { ty = record { 0 = tag.code }; values = values }
 
 -- ---- the values of one object are changed
 
-module _ (heap : Heap) (values now : Values) (address : ℕ) (tag : RowTag) (slots : List Slot) (held : List Value) (objects : maps.FinMap name_cmp Object)
+module _ (heap : Heap) (values now : Values) (address : ℕ) (tag : RowTag) (slots : List Slot) (held : List (Option Scalar)) (objects : maps.FinMap name_cmp Object)
     (own : AreNamesOwn heap) (is : IsObject heap address tag slots)
     (here : now address ≡ Some held) (others : (other : ℕ) → other ≢ address → now other ≡ values other)
     (before : ShowsObjects heap values objects) where
@@ -89,7 +89,7 @@ module _ (heap : Heap) (values now : Values) (address : ℕ) (tag : RowTag) (slo
         let values_are : held ≡ object.values = same_Some _ _ (sym here ∙ ap now (sym same) ∙ has.held) in
         got name
         ∙ ap (λ b. cond b (Some (object_with tag held)) (maps.get objects name)) tied
-        ∙ ap₂ (λ (t : ℕ) (v : List Value). Some (record { ty = record { 0 = t }; values = v })) ty values_are
+        ∙ ap₂ (λ (t : ℕ) (v : List (Option Scalar)). Some (record { ty = record { 0 = t }; values = v })) ty values_are
     | inr apart ↦
         let was = (before name object).1 (record {
           address = has.address;
@@ -109,7 +109,7 @@ module _ (heap : Heap) (values now : Values) (address : ℕ) (tag : RowTag) (slo
 
 -- ---- the object of a name
 
-pub object_of_name : (heap : Heap) (values : Values) (address : ℕ) (tag : RowTag) (slots : List Slot) (held : List Value) (objects : maps.FinMap name_cmp Object) (object : Object) → AreNamesOwn heap → ShowsObjects heap values objects → IsObject heap address tag slots
+pub object_of_name : (heap : Heap) (values : Values) (address : ℕ) (tag : RowTag) (slots : List Slot) (held : List (Option Scalar)) (objects : maps.FinMap name_cmp Object) (object : Object) → AreNamesOwn heap → ShowsObjects heap values objects → IsObject heap address tag slots
     → values address ≡ Some held → maps.get objects (name_in tag) ≡ Some object → object ≡ object_with tag held
 object_of_name heap values address tag slots held objects object own shown stands here got =
     let has = (shown (name_in tag) object).0 got in
@@ -117,4 +117,4 @@ object_of_name heap values address tag slots held objects object own shown stand
     let tags = same_object heap has.address address has.tag tag has.slots slots same has.stands stands in
     let ty : object.ty.0 ≡ tag.code = sym has.ty ∙ ap (λ (t : RowTag). t.code) tags in
     let values_are : object.values ≡ held = same_Some _ _ (sym has.held ∙ ap values same ∙ here) in
-    ap₂ (λ (t : ℕ) (v : List Value). record { ty = record { 0 = t }; values = v }) ty values_are
+    ap₂ (λ (t : ℕ) (v : List (Option Scalar)). record { ty = record { 0 = t }; values = v }) ty values_are

@@ -22,7 +22,8 @@ use Rattle.ostore_graph_model.specs.Addresses.{PlacedCell, cell_at}
 use Rattle.ostore_graph_model.specs.CellRules.{is_chunk_written, is_code_written, is_filled}
 use Rattle.ostore_graph_model.specs.Heap.{Heap, code_at, live_cell, IsObject, HasMember}
 use Rattle.ostore_graph_model.specs.HeapRules.{IsObjectRow, HasGoodPointers, HasGoodEntries, LeadsToChunk}
-use Rattle.ostore_graph_model.specs.Records.{pointer_at, slot_of, slot_in, ChunkEntry, entry_at, entry_place, entries_in, count_in, descriptor_in, Links, HeapCell, tag_of, is_sized, links_of_code, heap_cell, heap_of}
+use Rattle.ostore_graph_model.specs.Chunks.{pointer_at, ChunkEntry, entry_at, entry_place, entries_in, count_in, descriptor_in}
+use Rattle.ostore_graph_model.specs.Records.{slot_of, slot_in, Links, HeapCell, tag_of, is_sized, links_of_code, heap_cell, heap_of}
 use Rattle.ostore_graph_model.specs.Valid.{HasGoodCells}
 use Rattle.ostore_graph_model.specs.LawsOfCells.{LeadsToPage, LawOfPointers}
 use Rattle.ostore_graph_model.proofs.AddressLaws.{cell_at-page}

@@ -17,9 +17,9 @@ use Rattle.ostore_schema_layout.specs.declared.schema.MemberKind.TheVariants as 
 use Rattle.ostore_schema_layout.specs.declared.layouts.Place.{Place}
 use Rattle.ostore_schema_layout.specs.Cells.{kind_size, places_from, place_end, sizes, cell_size, code_size}
 use Rattle.ostore_schema_layout.specs.Numbers.{members_of}
-use Rattle.ostore_graph_model.specs.declared.values.Value.TheVariants as values
+use Rattle.ostore_graph_model.specs.declared.values.Scalar.TheVariants as scalars
 use Rattle.ostore_graph_model.specs.Addresses.{PlacedCell, cell_at}
-use Rattle.ostore_graph_model.specs.MemberValues.{value_of, value_in, values_in, values_of}
+use Rattle.ostore_graph_model.specs.MemberValues.{held_at, value_in, values_in, values_of}
 use Rattle.ostore_graph_model.specs.PageEdits.{EditsAt, HasPlace}
 use Rattle.ostore_graph_model.specs.Records.{Slot, slot_of, slot_in, Links, is_sized, links_of_code, links_in, HeapCell, tag_of, heap_cell, heap_of}
 use Rattle.ostore_graph_model.proofs.AddressLaws.{placed_with, cell_at-edited_same, cell_at-edited_other}
@@ -166,11 +166,11 @@ with_int-IsWithin place value bytes kind within =
       behind = SameOn-with_number_behind 8 place.offset _ (place_end place) (length bytes) bytes (omega arith) (omega arith);
     }
 
-pub with_int-value : (place : Place) (value : ℤ) (bytes : List ℕ) → place.kind ≡ kinds.Int → place_end place ≤ length bytes → FitsSigned w64 value → value_in (with_int place.offset value bytes) place ≡ values.Int value
+pub with_int-value : (place : Place) (value : ℤ) (bytes : List ℕ) → place.kind ≡ kinds.Int → place_end place ≤ length bytes → FitsSigned w64 value → value_in (with_int place.offset value bytes) place ≡ Some (scalars.Int value)
 with_int-value place value bytes kind within fits =
     let size : place_end place ≡ place.offset + 8 = ap (λ (k : MemberKind). place.offset + kind_size k) kind in
-    ap (value_of (with_int place.offset value bytes) place.offset) kind
-    ∙ ap values.Int (int_at-with_int place.offset value bytes fits (omega arith))
+    ap (held_at (with_int place.offset value bytes) place.offset) kind
+    ∙ ap (λ n. Some (scalars.Int n)) (int_at-with_int place.offset value bytes fits (omega arith))
 
 pub int-slot : (place : Place) (new old : List ℕ) → place.kind ≡ kinds.Int → slot_in new place ≡ slot_in old place
 int-slot place new old kind = ap (slot_of new place.offset) kind ∙ sym (ap (slot_of old place.offset) kind)

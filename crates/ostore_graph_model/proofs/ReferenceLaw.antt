@@ -20,11 +20,17 @@ use Rattle.ostore_graph_model.specs.Chains.{item_type}
 use Rattle.ostore_graph_model.specs.FixedPages.{roots_of, serial_of}
 use Rattle.ostore_graph_model.specs.Heap.{tag_at, code_at, name_in, name_at, live_cell}
 use Rattle.ostore_graph_model.specs.HeapRules.{LeadsToChunk, KeepsSerials, KeepsRoots}
-use Rattle.ostore_graph_model.specs.LawsOfMeaning.{HoldGraph, LeavesGraph, parted_from, joined_alone, LawOfReferences, LawOfNullReferences}
-use Rattle.ostore_graph_model.specs.MemberValues.{value_of, value_in, values_of}
-use Rattle.ostore_graph_model.specs.PageEdits.{name_of, side_of, WritesRef}
-use Rattle.ostore_graph_model.specs.Records.{pointer_at, Slot, slot_of, slot_in, Links, HeapCell, tag_of, heap_cell, heap_of, is_sized}
-use Rattle.std.specs.FinSet as sets
+use Rattle.ostore_graph_model.specs.LawsOfMeaning.{HoldGraph, LeavesGraph, LawOfReferences, LawOfNullReferences}
+use Rattle.ostore_graph_model.specs.Kinds.{is_ref}
+use Rattle.ostore_graph_model.specs.Links.{parted}
+use Rattle.ostore_graph_model.specs.Deeds.{LiveMember}
+use Rattle.ostore_graph_model.specs.Deeds.References.{with_joined}
+use Rattle.ostore_graph_model.proofs.JoinedFacts.{parted_from, joined_alone, live_parts, parted_alone, joined_by_reference}
+use Rattle.ostore_graph_model.specs.MemberValues.{held_at, value_in, values_of}
+use Rattle.ostore_graph_model.specs.PageEdits.{name_of, member_of, WritesRef}
+use Rattle.ostore_graph_model.specs.Chunks.{pointer_at}
+use Rattle.ostore_graph_model.specs.Records.{Slot, slot_of, slot_in, Links, HeapCell, tag_of, heap_cell, heap_of, is_sized}
+use Rattle.ostore_graph_model.specs.Sets as sets
 use Rattle.ostore_graph_model.specs.Orders.{pair_cmp}
 use Rattle.ostore_graph_model.specs.StandsFor.{StandsFor, ShowsObjects, ShowsPairs, ShowsRoots, ShowsSerials}
 use Rattle.ostore_graph_model.proofs.EditLaws.{same_roots, same_serials, pages_edited}
@@ -58,7 +64,7 @@ module _ (place : Place) (target : TypeNo) (pointer : ℕ) (old : List ℕ) (kin
       ∙ ap Slot.Refers (number_at-with_number 4 place.offset pointer old fits (omega arith))
 
   ref_value : (new : List ℕ) → value_in new place ≡ value_in old place
-  ref_value new = ap (value_of new place.offset) kind ∙ sym (ap (value_of old place.offset) kind)
+  ref_value new = ap (held_at new place.offset) kind ∙ sym (ap (held_at old place.offset) kind)
 
   ref_written : (new : List ℕ) → is_member_written new place ≡ is_member_written old place
   ref_written new = ap (is_kind_written new place.offset) kind ∙ sym (ap (is_kind_written old place.offset) kind)
@@ -151,29 +157,36 @@ module _ (schema : Schema) (old new : List PageImage) (address member : ℕ) (ce
 
     -- it leads to a row
     pub ref_joined : (to : PlacedCell) → pointer ≢ 0 → cell_at old pointer ≡ Some to
-        → LeavesGraph schema old new (record graph { pairs = joined_alone graph.pairs (side_of cell member) (name_of cell) (name_of to) })
+        → LeavesGraph schema old new (record graph { pairs = joined_alone graph.pairs (member_of cell member) (name_of cell) (name_of to) })
     unfolding heap_of
     ref_joined to some there =
-        ref_leaves (joined_alone graph.pairs (side_of cell member) (name_of cell) (name_of to))
+        ref_leaves (joined_alone graph.pairs (member_of cell member) (name_of cell) (name_of to))
         (pairs_joined schema (heap_of schema old) (heap_of schema new) address member (tag_of cell) (slots_in schema cell) write.def pointer change (name_of to) some
         (ap (λ (c : Option PlacedCell). option_map name_in (option_map (λ (l : HeapCell). l.tag) (option_map (heap_cell schema) c))) there)
         (names_own (heap_of schema old) (serial_of old) holds.cells_kept.serials) graph.pairs holds.stands.pairs)
 
     -- or nowhere
-    pub ref_parted : pointer ≡ 0 → LeavesGraph schema old new (record graph { pairs = parted_from graph.pairs (side_of cell member) (name_of cell) })
+    pub ref_parted : pointer ≡ 0 → LeavesGraph schema old new (record graph { pairs = parted_from graph.pairs (member_of cell member) (name_of cell) })
     ref_parted none =
-        ref_leaves (parted_from graph.pairs (side_of cell member) (name_of cell))
+        ref_leaves (parted_from graph.pairs (member_of cell member) (name_of cell))
         (pairs_parted schema (heap_of schema old) (heap_of schema new) address member (tag_of cell) (slots_in schema cell) write.def pointer change none
         (names_own (heap_of schema old) (serial_of old) holds.cells_kept.serials) graph.pairs holds.stands.pairs)
 
 pub ref_law : LawOfReferences
-unfolding heap_of
-ref_law schema old new address member cell place target pointer to graph holds write some there code =
+ref_law schema old new address member cell place target pointer to graph at holds write some there row found =
     let sized = cell_sized schema old address cell holds.cells_kept write.has.there in
-    let leads : LeadsToChunk (heap_of schema old) target.0 pointer = λ e. ap (λ (c : Option PlacedCell). option_map (λ (l : HeapCell). l.tag.code) (option_map (heap_cell schema) c)) there ∙ ap Some code in
-    ref_joined schema old new address member cell place target pointer write sized graph holds leads to some there
+    let kind = def_kind schema old new address member cell place target pointer write sized in
+    let parts = live_parts schema (name_of cell) (member_of cell member) at found in
+    subst (λ a. LeavesGraph schema old new (with_joined schema graph a (name_of to))) parts.2
+    (subst (λ pairs. LeavesGraph schema old new (record graph { pairs = pairs }))
+    (sym (joined_by_reference schema (member_of cell member) (name_of cell) (name_of to) graph.pairs write.def write.defined write.alone (ap is_ref kind)))
+    (ref_joined schema old new address member cell place target pointer write sized graph holds (λ e. row) to some there))
 
 pub null_law : LawOfNullReferences
-null_law schema old new address member cell place target graph holds write =
+null_law schema old new address member cell place target graph at holds write found =
     let sized = cell_sized schema old address cell holds.cells_kept write.has.there in
-    ref_parted schema old new address member cell place target 0 write sized graph holds (λ some. absurd (some refl)) refl
+    let parts = live_parts schema (name_of cell) (member_of cell member) at found in
+    subst (λ (a : LiveMember). LeavesGraph schema old new (record graph { pairs = parted schema a.at a.owner graph.pairs })) parts.2
+    (subst (λ pairs. LeavesGraph schema old new (record graph { pairs = pairs }))
+    (sym (parted_alone schema (member_of cell member) (name_of cell) (name_of cell) graph.pairs write.def write.defined write.alone))
+    (ref_parted schema old new address member cell place target 0 write sized graph holds (λ some. absurd (some refl)) refl))

@@ -2,9 +2,10 @@
 use Rattle.std.proofs.Common.{◌≡◌, ◌≢◌, ◌⊎◌, ℕ, ◌&&◌, ◌||◌, not, Bool, true, false, List, set, refl, sym, ap, ap₂, subst, ◌∙◌, Option, Some, None, inl, inr, true≢false}
 use Rattle.std.specs.List.{slice_get}
 use Rattle.std.specs.Option.{option_map}
-use Rattle.std.specs.Ordering.{is_eq, eq_by_cmp}
+use Rattle.std.specs.Ordering.{eq_by_cmp}
 use Rattle.std.specs.FinMap as maps
-use Rattle.std.specs.FinSet as sets
+use Rattle.ostore_graph_model.specs.Sets as sets
+use Rattle.ostore_graph_model.proofs.SetFacts as set_facts
 use Rattle.std.proofs.lemmas.Bool.{cases_eq, or_cases, and_parts, and_from, not-true, false_from_ne_true}
 use Rattle.std.proofs.lemmas.Option.{same_Some, none-some, slice_get_within}
 use Rattle.ostore_page_tags.specs.Rules.{is_type_code}
@@ -16,17 +17,17 @@ use Rattle.ostore_schema_layout.specs.declared.schema.MemberKind.TheVariants as 
 use Rattle.ostore_schema_layout.specs.Numbers.{members_of}
 use Rattle.ostore_schema_layout.specs.Lawful.{link_target}
 use Rattle.ostore_graph_model.specs.declared.values.Name.{Name}
-use Rattle.ostore_graph_model.specs.Orders.{Side, side_cmp, Pair, pair_cmp, name_cmp}
+use Rattle.ostore_graph_model.specs.Orders.{TypeMember, type_member_cmp, Pair, pair_cmp, name_cmp}
 use Rattle.ostore_graph_model.specs.Graph.{Object}
 use Rattle.ostore_graph_model.specs.Chains.{item_type, LeadsTo}
 use Rattle.ostore_graph_model.specs.Heap.{Heap, tag_at, code_at, name_at, name_in, live_cell, IsObject, HasMember}
 use Rattle.ostore_graph_model.specs.HeapRules.{LeadsToChunk, HasGoodPointers, KeepsPointers}
-use Rattle.ostore_graph_model.specs.LawsOfMeaning.{is_from, parted_from, joined_alone}
+use Rattle.ostore_graph_model.proofs.JoinedFacts.{is_from, parted_from, joined_alone}
 use Rattle.ostore_graph_model.specs.Records.{Slot, Links, RowTag, HeapCell}
-use Rattle.ostore_graph_model.specs.Sides.{comes_first, IsLink}
-use Rattle.ostore_graph_model.specs.StandsFor.{Joins, HasPair, HasObject, ShowsObjects, ShowsPairs}
+use Rattle.ostore_graph_model.specs.Links.{comes_first}
+use Rattle.ostore_graph_model.specs.StandsFor.{IsLink, Joins, HasPair, HasObject, ShowsObjects, ShowsPairs}
 use Rattle.ostore_graph_model.proofs.AddressLaws.{slice_get-set_same, slice_get-set_other}
-use Rattle.ostore_graph_model.proofs.OrderLaws.{tied_same, same_tied, side_cmp-IsTotalOrder, side_cmp-IsAntisymmetric, name_cmp-IsTotalOrder, name_cmp-IsAntisymmetric, pair_cmp-IsTotalOrder, pair_cmp-IsAntisymmetric}
+use Rattle.ostore_graph_model.proofs.OrderLaws.{tied_same, same_tied, type_member_cmp-IsTotalOrder, type_member_cmp-IsAntisymmetric, name_cmp-IsTotalOrder, name_cmp-IsAntisymmetric, pair_cmp-IsTotalOrder, pair_cmp-IsAntisymmetric}
 use Rattle.ostore_graph_model.proofs.ObjectLaws.{Values, AreNamesOwn, named_object, same_object}
 use Rattle.ostore_graph_model.proofs.HeapLaws.{ChangesObject, member_elsewhere, leads_kept}
 
@@ -173,7 +174,7 @@ module _ (schema : Schema) (heap now : Heap) (address member : ℕ) (tag : RowTa
 
   -- ---- pairs
 
-  abbrev side : Side
+  abbrev side : TypeMember
   side = record { ty = record { 0 = tag.code }; member = record { 0 = member } }
 
   is_link : IsLink schema (record { ty = record { 0 = tag.code }; member = record { 0 = member } })
@@ -187,12 +188,12 @@ module _ (schema : Schema) (heap now : Heap) (address member : ℕ) (tag : RowTa
   -- a pair that is from the side of the object
   from_parts : (x : Name) (pair : Pair) → is_from (record { ty = record { 0 = tag.code }; member = record { 0 = member } }) x pair ≡ true → (pair.link ≡ record { ty = record { 0 = tag.code }; member = record { 0 = member } }) × (pair.first ≡ x)
   from_parts x pair e =
-      let parts = and_parts (is_eq (side_cmp pair.link (record { ty = record { 0 = tag.code }; member = record { 0 = member } }))) (is_eq (name_cmp pair.first x)) e in
-      (tied_same side_cmp-IsAntisymmetric pair.link (record { ty = record { 0 = tag.code }; member = record { 0 = member } }) parts.0, tied_same name_cmp-IsAntisymmetric pair.first x parts.1)
+      let parts = and_parts (eq_by_cmp type_member_cmp pair.link (record { ty = record { 0 = tag.code }; member = record { 0 = member } })) (eq_by_cmp name_cmp pair.first x) e in
+      (tied_same type_member_cmp-IsAntisymmetric pair.link (record { ty = record { 0 = tag.code }; member = record { 0 = member } }) parts.0, tied_same name_cmp-IsAntisymmetric pair.first x parts.1)
 
   is_from_side : (x : Name) (pair : Pair) → pair.link ≡ record { ty = record { 0 = tag.code }; member = record { 0 = member } } → pair.first ≡ x → is_from (record { ty = record { 0 = tag.code }; member = record { 0 = member } }) x pair ≡ true
   is_from_side x pair link first =
-      and_from _ _ (same_tied side_cmp-IsTotalOrder pair.link (record { ty = record { 0 = tag.code }; member = record { 0 = member } }) link) (same_tied name_cmp-IsTotalOrder pair.first x first)
+      and_from _ _ (same_tied type_member_cmp-IsTotalOrder pair.link (record { ty = record { 0 = tag.code }; member = record { 0 = member } }) link) (same_tied name_cmp-IsTotalOrder pair.first x first)
 
   before_code : (code : ℕ) → code_at heap address ≡ Some code → is_type_code code ≡ true
   before_code = typed_code heap slots change.was.there
@@ -200,7 +201,7 @@ module _ (schema : Schema) (heap now : Heap) (address member : ℕ) (tag : RowTa
   after_code : (code : ℕ) → code_at now address ≡ Some code → is_type_code code ≡ true
   after_code = typed_code now (set slots member (Slot.Refers pointer)) change.is
 
-  joins_with : (link : Side) (x z : Name) (j : Joins schema heap link x z) → HasMember schema now j.address link.member.0 j.tag j.def j.slot → Joins schema now link x z
+  joins_with : (link : TypeMember) (x z : Name) (j : Joins schema heap link x z) → HasMember schema now j.address link.member.0 j.tag j.def j.slot → Joins schema now link x z
   joins_with link x z j has = record {
     address = j.address;
     tag = j.tag;
@@ -214,7 +215,7 @@ module _ (schema : Schema) (heap now : Heap) (address member : ℕ) (tag : RowTa
     to = names_by_tags heap now tags_stay j.pointer ∙ j.to;
   }
 
-  joined_with : (link : Side) (x z : Name) (j : Joins schema now link x z) → HasMember schema heap j.address link.member.0 j.tag j.def j.slot → Joins schema heap link x z
+  joined_with : (link : TypeMember) (x z : Name) (j : Joins schema now link x z) → HasMember schema heap j.address link.member.0 j.tag j.def j.slot → Joins schema heap link x z
   joined_with link x z j has = record {
     address = j.address;
     tag = j.tag;
@@ -259,7 +260,7 @@ module _ (schema : Schema) (heap now : Heap) (address member : ℕ) (tag : RowTa
               let leads : (pointer ≡ j.pointer) × (j.pointer ≢ 0) = subst (λ s. LeadsTo now j.tag.segment j.def.kind s j.pointer) here.2 j.leads in
               inl (link, sym j.from ∙ ap name_in tags, (λ none. leads.1 (sym leads.0 ∙ none)), ap (name_at now) leads.0 ∙ j.to)
           | inr was ↦ inr (
-            λ e. was.0 (ap (λ (s : Side). s.member.0) (from_parts (name_in tag) pair e).0),
+            λ e. was.0 (ap (λ (s : TypeMember). s.member.0) (from_parts (name_in tag) pair e).0),
             record { link = has.link; joins = joined_with pair.link pair.first pair.second j (subst (λ a. HasMember schema heap a pair.link.member.0 j.tag j.def j.slot) (sym same) was.1) },
           )
         ]
@@ -274,7 +275,7 @@ module _ (schema : Schema) (heap now : Heap) (address member : ℕ) (tag : RowTa
   -- the reference leads nowhere
   module _ (none : pointer ≡ 0) (own : AreNamesOwn heap) (pairs : sets.FinSet pair_cmp) (shown : ShowsPairs schema heap pairs) where
     left : (pair : Pair) → sets.contains (parted_from pairs (record { ty = record { 0 = tag.code }; member = record { 0 = member } }) (name_in tag)) pair ≡ (sets.contains pairs pair && not (is_from (record { ty = record { 0 = tag.code }; member = record { 0 = member } }) (name_in tag) pair))
-    left pair = sets.contains-retain pairs (λ p. not (is_from (record { ty = record { 0 = tag.code }; member = record { 0 = member } }) (name_in tag) p)) pair (λ p e. ap (λ q. not (is_from (record { ty = record { 0 = tag.code }; member = record { 0 = member } }) (name_in tag) q)) (sym (pair_cmp-IsAntisymmetric pair p e)))
+    left pair = set_facts.contains-retain pairs (λ p. not (is_from (record { ty = record { 0 = tag.code }; member = record { 0 = member } }) (name_in tag) p)) pair (λ p e. ap (λ q. not (is_from (record { ty = record { 0 = tag.code }; member = record { 0 = member } }) (name_in tag) q)) (sym (pair_cmp-IsAntisymmetric pair p e)))
 
     pub pairs_parted : ShowsPairs schema now (parted_from pairs (record { ty = record { 0 = tag.code }; member = record { 0 = member } }) (name_in tag))
     pairs_parted pair = (
@@ -294,9 +295,9 @@ module _ (schema : Schema) (heap now : Heap) (address member : ℕ) (tag : RowTa
     got : (pair : Pair) → sets.contains (joined_alone pairs (record { ty = record { 0 = tag.code }; member = record { 0 = member } }) (name_in tag) y) pair
         ≡ (eq_by_cmp pair_cmp pair the_pair || (sets.contains pairs pair && not (is_from (record { ty = record { 0 = tag.code }; member = record { 0 = member } }) (name_in tag) pair)))
     got pair =
-        sets.contains-insert pair_cmp-IsTotalOrder (sets.retain pairs (λ p. not (is_from (record { ty = record { 0 = tag.code }; member = record { 0 = member } }) (name_in tag) p))) the_pair pair
+        set_facts.contains-insert pair_cmp-IsTotalOrder (sets.retain pairs (λ p. not (is_from (record { ty = record { 0 = tag.code }; member = record { 0 = member } }) (name_in tag) p))) the_pair pair
         ∙ ap (λ b. eq_by_cmp pair_cmp pair the_pair || b)
-        (sets.contains-retain pairs (λ p. not (is_from (record { ty = record { 0 = tag.code }; member = record { 0 = member } }) (name_in tag) p)) pair (λ p e. ap (λ q. not (is_from (record { ty = record { 0 = tag.code }; member = record { 0 = member } }) (name_in tag) q)) (sym (pair_cmp-IsAntisymmetric pair p e))))
+        (set_facts.contains-retain pairs (λ p. not (is_from (record { ty = record { 0 = tag.code }; member = record { 0 = member } }) (name_in tag) p)) pair (λ p e. ap (λ q. not (is_from (record { ty = record { 0 = tag.code }; member = record { 0 = member } }) (name_in tag) q)) (sym (pair_cmp-IsAntisymmetric pair p e))))
 
     new_pair : HasPair schema now the_pair
     new_pair = record {

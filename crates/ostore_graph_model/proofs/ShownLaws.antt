@@ -3,16 +3,17 @@
 use Rattle.std.proofs.Common.{◌≡◌, ◌≢◌, ◌↔◌, ℕ, List, [], ◌∷◌, map, refl, sym, ap, ap₂, subst, ◌∙◌, arith, Some, inl, inr, suc}
 use Rattle.std.specs.List.{All, Any, Contains}
 use Rattle.std.specs.FinMap as maps
-use Rattle.std.specs.FinSet as sets
+use Rattle.ostore_graph_model.specs.Sets as sets
 use Rattle.ostore_schema_layout.specs.declared.schema.Schema.{Schema}
 use Rattle.ostore_graph_model.specs.declared.values.Name.{Name}
 use Rattle.ostore_graph_model.specs.declared.commands.Key.{Key}
-use Rattle.ostore_graph_model.specs.Orders.{Place, place_cmp, key_cmp, text_cmp, index_cmp}
+use Rattle.ostore_graph_model.specs.Orders.{ObjectMember, object_member_cmp, key_cmp, text_cmp, index_cmp}
 use Rattle.ostore_graph_model.specs.Chains.{item_type, ChainLink, IsChain, entries_of, indexes_of, HasEntries}
 use Rattle.ostore_graph_model.specs.FixedPages.{RootRow}
 use Rattle.ostore_graph_model.specs.Heap.{Heap, name_at, code_at}
 use Rattle.ostore_graph_model.specs.HeapRules.{KeepsPointers, KeepsItems, IsGoodRoot, KeepsRoots}
-use Rattle.ostore_graph_model.specs.Records.{CollectionHead, ChunkEntry, IndexDescriptor}
+use Rattle.ostore_graph_model.specs.Chunks.{ChunkEntry, IndexDescriptor}
+use Rattle.ostore_graph_model.specs.Records.{CollectionHead}
 use Rattle.ostore_graph_model.specs.StandsFor.{HasCollection, HasList, Binds, HasDictionary, HasIndex, ShowsLists, ShowsDictionaries, ShowsIndexes, ShowsRoots}
 use Rattle.ostore_graph_model.proofs.HeapLaws.{ChangesObject, IsNoType, chunk_code-IsNoType, chain_kept, entries_kept, begins_back, begins_kept}
 use Rattle.ostore_graph_model.proofs.ItemLaws.{items_lead}
@@ -40,7 +41,7 @@ module _ (schema : Schema) (heap now : Heap) (address : ℕ) (change : ChangesOb
       no_chain [] linked = refl
       no_chain (one ∷ others) linked = absurd (linked.0 none)
 
-  collection_forth : (place : Place) (code : ℕ) (entries : List ChunkEntry) → HasCollection schema heap place code entries → HasCollection schema now place code entries
+  collection_forth : (place : ObjectMember) (code : ℕ) (entries : List ChunkEntry) → HasCollection schema heap place code entries → HasCollection schema now place code entries
   collection_forth place code entries has = record {
     address = has.address;
     tag = has.tag;
@@ -52,7 +53,7 @@ module _ (schema : Schema) (heap now : Heap) (address : ℕ) (change : ChangesOb
     all = entries_kept heap now address change.others change.before code has.tag.segment has.head.first entries (subst IsNoType has.kind (chunk_code-IsNoType has.def.kind)) has.all;
   }
 
-  collection_back : (place : Place) (code : ℕ) (entries : List ChunkEntry) → entries ≢ [] → HasCollection schema now place code entries → HasCollection schema heap place code entries
+  collection_back : (place : ObjectMember) (code : ℕ) (entries : List ChunkEntry) → entries ≢ [] → HasCollection schema now place code entries → HasCollection schema heap place code entries
   collection_back place code entries some has = record {
     address = has.address;
     tag = has.tag;
@@ -67,12 +68,12 @@ module _ (schema : Schema) (heap now : Heap) (address : ℕ) (change : ChangesOb
     all = entries_kept now heap address (λ a apart. sym (change.others a apart)) change.after code has.tag.segment has.head.first entries (subst IsNoType has.kind (chunk_code-IsNoType has.def.kind)) has.all;
   }
 
-  names_along : (place : Place) (code : ℕ) (entries : List ChunkEntry) → HasCollection schema heap place code entries → All (λ entry. name_at now entry.item ≡ name_at heap entry.item) entries
+  names_along : (place : ObjectMember) (code : ℕ) (entries : List ChunkEntry) → HasCollection schema heap place code entries → All (λ entry. name_at now entry.item ≡ name_at heap entry.item) entries
   names_along place code entries has =
       all_then (λ (entry : ChunkEntry). code_at heap entry.item ≡ Some (item_type has.def.kind)) (λ (entry : ChunkEntry). name_at now entry.item ≡ name_at heap entry.item) entries (λ entry there. names entry.item _ there)
       (items_lead schema heap pointers items has.address place.member.0 has.tag has.def has.head entries has.has (subst (λ c. HasEntries heap c has.tag.segment has.head.first entries) (sym has.kind) has.all))
 
-  list_forth : (place : Place) (held : List Name) → HasList schema heap place held → HasList schema now place held
+  list_forth : (place : ObjectMember) (held : List Name) → HasList schema heap place held → HasList schema now place held
   list_forth place held has = record {
     entries = has.entries;
     some = has.some;
@@ -80,7 +81,7 @@ module _ (schema : Schema) (heap now : Heap) (address : ℕ) (change : ChangesOb
     named = map_all (λ (entry : ChunkEntry). name_at now entry.item) (λ (entry : ChunkEntry). name_at heap entry.item) has.entries (names_along place 241 has.entries has.has) ∙ has.named;
   }
 
-  list_back : (place : Place) (held : List Name) → HasList schema now place held → HasList schema heap place held
+  list_back : (place : ObjectMember) (held : List Name) → HasList schema now place held → HasList schema heap place held
   list_back place held has =
       let was = collection_back place 241 has.entries has.some has.has in
       record {
@@ -90,17 +91,17 @@ module _ (schema : Schema) (heap now : Heap) (address : ℕ) (change : ChangesOb
         named = sym (map_all (λ (entry : ChunkEntry). name_at now entry.item) (λ (entry : ChunkEntry). name_at heap entry.item) has.entries (names_along place 241 has.entries was)) ∙ has.named;
       }
 
-  pub lists_kept : (lists : maps.FinMap place_cmp (List Name)) → ShowsLists schema heap lists → ShowsLists schema now lists
+  pub lists_kept : (lists : maps.FinMap object_member_cmp (List Name)) → ShowsLists schema heap lists → ShowsLists schema now lists
   lists_kept lists shown place held = (λ e. list_forth place held ((shown place held).0 e), λ has. (shown place held).1 (list_back place held has))
 
-  binds_forth : (place : Place) (code : ℕ) (entries : List ChunkEntry) (key : Key) (name : Name) → HasCollection schema heap place code entries → Any (Binds heap key name) entries ↔ Any (Binds now key name) entries
+  binds_forth : (place : ObjectMember) (code : ℕ) (entries : List ChunkEntry) (key : Key) (name : Name) → HasCollection schema heap place code entries → Any (Binds heap key name) entries ↔ Any (Binds now key name) entries
   binds_forth place code entries key name has =
       let same = names_along place code entries has in (
         any_all (Binds heap key name) (Binds now key name) entries (λ k d below binds. (binds.0, same k d below ∙ binds.1)),
         any_all (Binds now key name) (Binds heap key name) entries (λ k d below binds. (binds.0, sym (same k d below) ∙ binds.1)),
       )
 
-  dictionary_forth : (place : Place) (held : maps.FinMap key_cmp Name) → HasDictionary schema heap place held → HasDictionary schema now place held
+  dictionary_forth : (place : ObjectMember) (held : maps.FinMap key_cmp Name) → HasDictionary schema heap place held → HasDictionary schema now place held
   dictionary_forth place held has = record {
     code = has.code;
     keyed = has.keyed;
@@ -112,7 +113,7 @@ module _ (schema : Schema) (heap now : Heap) (address : ℕ) (change : ChangesOb
         (λ e. same.0 ((has.bound key name).0 e), λ any. (has.bound key name).1 (same.1 any));
   }
 
-  dictionary_back : (place : Place) (held : maps.FinMap key_cmp Name) → HasDictionary schema now place held → HasDictionary schema heap place held
+  dictionary_back : (place : ObjectMember) (held : maps.FinMap key_cmp Name) → HasDictionary schema now place held → HasDictionary schema heap place held
   dictionary_back place held has =
       let was = collection_back place has.code has.entries has.some has.has in
       record {
@@ -126,7 +127,7 @@ module _ (schema : Schema) (heap now : Heap) (address : ℕ) (change : ChangesOb
             (λ e. same.1 ((has.bound key name).0 e), λ any. (has.bound key name).1 (same.0 any));
       }
 
-  pub dictionaries_kept : (dictionaries : maps.FinMap place_cmp (maps.FinMap key_cmp Name)) → ShowsDictionaries schema heap dictionaries → ShowsDictionaries schema now dictionaries
+  pub dictionaries_kept : (dictionaries : maps.FinMap object_member_cmp (maps.FinMap key_cmp Name)) → ShowsDictionaries schema heap dictionaries → ShowsDictionaries schema now dictionaries
   dictionaries_kept dictionaries shown place held = (λ e. dictionary_forth place held ((shown place held).0 e), λ has. (shown place held).1 (dictionary_back place held has))
 
   pub indexes_kept : (indexes : sets.FinSet index_cmp) → ShowsIndexes schema heap indexes → ShowsIndexes schema now indexes

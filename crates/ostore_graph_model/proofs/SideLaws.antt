@@ -1,14 +1,13 @@
 -- What a side of a link has: where the links are good, each side shows the link's pairs.
-use Rattle.std.proofs.Common.{◌≡◌, ◌≢◌, ◌↔◌, ℕ, ◌+◌, Bool, true, false, cond, refl, sym, ap, subst, ◌∙◌, Option, Some, None, inl, inr, true≢false}
+use Rattle.std.proofs.Common.{◌≡◌, ◌≢◌, ℕ, ◌+◌, true, false, cond, refl, sym, ap, subst, ◌∙◌, Option, Some, None, inl, inr, true≢false}
 use Rattle.std.specs.List.{slice_get}
-use Rattle.std.specs.Option.{option_map}
+use Rattle.std.specs.Option.{option_map, option_and_then}
 use Rattle.std.specs.declared.cmp.Ordering.{Ordering}
 use Rattle.std.specs.declared.cmp.Ordering.TheVariants.{Less, Equal, Greater}
 use Rattle.std.specs.Ordering.{is_lt, ordering_reverse}
-use Rattle.std.specs.FinSet as sets
+use Rattle.ostore_graph_model.specs.Sets as sets
 use Rattle.std.proofs.lemmas.Bool.{cases_Bool}
 use Rattle.std.proofs.lemmas.Option.{same_Some, none-some}
-use Rattle.ostore_base.specs.declared.page.PageImage.{PageImage}
 use Rattle.ostore_schema_layout.specs.declared.schema.Schema.{Schema}
 use Rattle.ostore_schema_layout.specs.declared.schema.TypeNo.{TypeNo}
 use Rattle.ostore_schema_layout.specs.declared.schema.MemberNo.{MemberNo}
@@ -20,15 +19,15 @@ use Rattle.ostore_schema_layout.specs.Numbers.{members_of, member_at}
 use Rattle.ostore_schema_layout.specs.Lawful.{link_target, inverse_of, IsTwoSided, IsLawfulInverse, IsLawfulMember, IsLawful}
 use Rattle.ostore_schema_layout.proofs.lawful.LawfulLawsPlaces.{lawful_type, lawful_member, member_stands, stands}
 use Rattle.ostore_graph_model.specs.declared.values.Name.{Name}
-use Rattle.ostore_graph_model.specs.Orders.{Side, side_cmp, Pair, pair_cmp}
-use Rattle.ostore_graph_model.specs.Sides.{side_of_inverse, comes_first, IsLink, pair_from, ArePartners}
-use Rattle.ostore_graph_model.specs.Chains.{item_type, LeadsTo}
-use Rattle.ostore_graph_model.specs.Heap.{Heap, name_at, name_in, code_at, tag_at}
+use Rattle.ostore_graph_model.specs.Orders.{TypeMember, type_member_cmp, Pair, pair_cmp}
+use Rattle.ostore_graph_model.specs.Links.{member_of_inverse, comes_first, pair_from, inverse_at}
+use Rattle.ostore_graph_model.specs.Chains.{item_type}
+use Rattle.ostore_graph_model.specs.Heap.{Heap, name_in}
 use Rattle.ostore_graph_model.specs.HeapRules.{KeepsPointers, KeepsItems, KeepsLinks}
-use Rattle.ostore_graph_model.specs.Records.{RowTag, heap_of}
-use Rattle.ostore_graph_model.specs.StandsFor.{Joins, ShowsPairs}
+use Rattle.ostore_graph_model.specs.Records.{heap_of}
+use Rattle.ostore_graph_model.specs.StandsFor.{IsLink, Joins, ShowsPairs}
 use Rattle.ostore_graph_model.specs.LawsOfLinks.{LawOfSides}
-use Rattle.ostore_graph_model.proofs.OrderLaws.{side_cmp-IsTotalOrder, side_cmp-IsAntisymmetric}
+use Rattle.ostore_graph_model.proofs.OrderLaws.{type_member_cmp-IsTotalOrder, type_member_cmp-IsAntisymmetric}
 use Rattle.ostore_graph_model.proofs.ObjectLaws.{tag_of_cell}
 use Rattle.ostore_graph_model.proofs.HeapLaws.{code_of}
 use Rattle.ostore_graph_model.proofs.ItemLaws.{leads_to_row}
@@ -55,19 +54,19 @@ target_type (kinds.DictInt target) ty e = absurd (none-some ty e)
 target_type (kinds.DictText target) ty e = absurd (none-some ty e)
 
 -- the one of two sides that doesn't come first comes second
-other_first : (one other : Side) → is_lt (side_cmp one other) ≡ false → one ≢ other → is_lt (side_cmp other one) ≡ true
-other_first one other later apart = by (side_cmp one other) refl
+other_first : (one other : TypeMember) → is_lt (type_member_cmp one other) ≡ false → one ≢ other → is_lt (type_member_cmp other one) ≡ true
+other_first one other later apart = by (type_member_cmp one other) refl
   where
-    by : (order : Ordering) → side_cmp one other ≡ order → is_lt (side_cmp other one) ≡ true
+    by : (order : Ordering) → type_member_cmp one other ≡ order → is_lt (type_member_cmp other one) ≡ true
     by Less e = absurd (true≢false (sym (ap is_lt e) ∙ later))
-    by Equal e = absurd (apart (side_cmp-IsAntisymmetric one other e))
-    by Greater e = ap is_lt (side_cmp-IsTotalOrder.antisymm other one ∙ ap ordering_reverse e)
+    by Equal e = absurd (apart (type_member_cmp-IsAntisymmetric one other e))
+    by Greater e = ap is_lt (type_member_cmp-IsTotalOrder.antisymm other one ∙ ap ordering_reverse e)
 
 module _ (schema : Schema) (heap : Heap) (pointers : (address : ℕ) → KeepsPointers schema heap address) (items : (address : ℕ) → KeepsItems heap address)
     (links : (address : ℕ) → KeepsLinks schema heap address) where
   -- what is joined at one side is joined at the other
-  turned : (side : Side) (def : MemberDef) (inverse : Inverse) → slice_get (members_of schema side.ty.0) side.member.0 ≡ Some def → def.inverse ≡ Some inverse → link_target def.kind ≡ Some inverse.ty
-      → (x y : Name) → Joins schema heap side x y → Joins schema heap (side_of_inverse inverse) y x
+  turned : (side : TypeMember) (def : MemberDef) (inverse : Inverse) → slice_get (members_of schema side.ty.0) side.member.0 ≡ Some def → def.inverse ≡ Some inverse → link_target def.kind ≡ Some inverse.ty
+      → (x y : Name) → Joins schema heap side x y → Joins schema heap (member_of_inverse inverse) y x
   turned side def inverse defined sided leads x y j =
       let defs : j.def ≡ def = same_Some _ _ (sym j.has.defined ∙ ap (λ code. slice_get (members_of schema code) side.member.0) j.ty ∙ defined) in
       let back = links j.address side.member.0 j.tag j.def j.slot inverse j.pointer j.has (ap (λ (d : MemberDef). d.inverse) defs ∙ sided) j.leads in
@@ -85,7 +84,7 @@ module _ (schema : Schema) (heap : Heap) (pointers : (address : ℕ) → KeepsPo
         to = ap (option_map name_in) (tag_of_cell heap j.address _ j.has.object.there) ∙ ap Some j.from;
       }
 
-  module _ (lawful : IsLawful schema) (pairs : sets.FinSet pair_cmp) (shown : ShowsPairs schema heap pairs) (side : Side) (def : MemberDef)
+  module _ (lawful : IsLawful schema) (pairs : sets.FinSet pair_cmp) (shown : ShowsPairs schema heap pairs) (side : TypeMember) (def : MemberDef)
       (defined : slice_get (members_of schema side.ty.0) side.member.0 ≡ Some def) (linked : link_target def.kind ≢ None) (x y : Name) where
     abbrev own_pair : Pair
     own_pair = record { link = side; first = x; second = y }
@@ -104,31 +103,30 @@ module _ (schema : Schema) (heap : Heap) (pointers : (address : ℕ) → KeepsPo
           subst (λ (p : Pair). (Joins schema heap side x y → sets.contains pairs p ≡ true) × (sets.contains pairs p ≡ true → Joins schema heap side x y))
           (sym (ap (λ b. cond b own_pair turned_pair) second)) (
             λ j. (shown turned_pair).1 (record { link = other_link second; joins = turned side def inverse defined e two.leads x y j }),
-            λ c. turned (side_of_inverse inverse) two.named.other (inverse_of side.ty side.member) two.named.there two.named.back two.named.target y x ((shown turned_pair).0 c).joins,
+            λ c. turned (member_of_inverse inverse) two.named.other (inverse_of side.ty side.member) two.named.there two.named.back two.named.target y x ((shown turned_pair).0 c).joins,
           )
     ]
       where
         turned_pair : Pair
-        turned_pair = record { link = side_of_inverse inverse; first = y; second = x }
+        turned_pair = record { link = member_of_inverse inverse; first = y; second = x }
 
         two : IsTwoSided schema side.ty side.member def.kind inverse
         two = two_sided schema lawful side.ty side.member def inverse defined e
 
-        apart : side ≢ side_of_inverse inverse
+        apart : side ≢ member_of_inverse inverse
         apart same = two.apart (λ i. record { ty = (sym same i).ty; member = (sym same i).member })
 
-        other_link : comes_first side (Some inverse) ≡ false → IsLink schema (side_of_inverse inverse)
+        other_link : comes_first side (Some inverse) ≡ false → IsLink schema (member_of_inverse inverse)
         other_link later = record {
           def = two.named.other;
           defined = two.named.there;
           sided = λ none. none-some side.ty (sym none ∙ two.named.target);
-          first = ap (comes_first (side_of_inverse inverse)) two.named.back ∙ other_first side (side_of_inverse inverse) later apart;
+          first = ap (comes_first (member_of_inverse inverse)) two.named.back ∙ other_first side (member_of_inverse inverse) later apart;
         }
 
 pub link_sides_law : LawOfSides
-link_sides_law schema pages graph side def x y holds links defined linked =
+link_sides_law schema pages graph at def x y holds links defined linked =
     let cells = holds.cells_kept in
-    let both = by_inverse schema (heap_of schema pages) cells.pointers cells.items links holds.pages_kept.spelled.lawful graph.pairs holds.stands.pairs side def defined linked x y def.inverse refl in (
-      λ j. record { def = def; defined = defined; paired = both.0 j },
-      λ p. both.1 (subst (λ (d : MemberDef). sets.contains graph.pairs (pair_from side d.inverse x y) ≡ true) (same_Some p.def def (sym p.defined ∙ defined)) p.paired),
-    )
+    let both = by_inverse schema (heap_of schema pages) cells.pointers cells.items links holds.pages_kept.spelled.lawful graph.pairs holds.stands.pairs at def defined linked x y def.inverse refl in
+    let inverse : inverse_at schema at ≡ def.inverse = ap (option_and_then (λ (d : MemberDef). d.inverse)) defined in
+    subst (λ (i : Option Inverse). (Joins schema (heap_of schema pages) at x y → sets.contains graph.pairs (pair_from at i x y) ≡ true) × (sets.contains graph.pairs (pair_from at i x y) ≡ true → Joins schema (heap_of schema pages) at x y)) (sym inverse) both

@@ -15,8 +15,8 @@ use Rattle.ostore_page_tags.proofs.bytes.ImageLaws.{length-replaced_within, drop
 use Rattle.ostore_schema_layout.specs.declared.schema.MemberKind.{MemberKind}
 use Rattle.ostore_schema_layout.specs.Cells.{in_fours, kind_size, place_end, places_from}
 use Rattle.ostore_schema_layout.specs.Numbers.{members_of}
-use Rattle.ostore_graph_model.specs.declared.values.Value.TheVariants as values
-use Rattle.ostore_graph_model.specs.MemberValues.{text_at, value_of}
+use Rattle.ostore_graph_model.specs.declared.values.Scalar.TheVariants as scalars
+use Rattle.ostore_graph_model.specs.MemberValues.{text_at, held_at}
 use Rattle.ostore_graph_model.specs.Records.{slot_of, is_sized}
 use Rattle.ostore_graph_model.specs.CellRules.{is_text_written, is_kind_written, is_member_written, is_code_written, is_filled}
 use Rattle.ostore_graph_model.specs.PageEdits.{stored_text}
@@ -24,7 +24,7 @@ use Rattle.ostore_graph_model.specs.LawsOfMeaning.{LawOfTexts}
 use Rattle.ostore_graph_model.proofs.MemberLaws.{IsWithin, text_room}
 use Rattle.ostore_graph_model.proofs.WrittenLaws.{object_code_written}
 use Rattle.ostore_graph_model.proofs.MemberEdits.{cell_sized, place_within}
-use Rattle.ostore_graph_model.proofs.ValueLaws.{value_law}
+use Rattle.ostore_graph_model.proofs.ValueLaws.{value_law, held_by_command}
 
 -- ---- lists of bytes
 
@@ -96,7 +96,7 @@ module _ (max : ℕ) (text : List ℕ) (short : length text ≤ max) (at : ℕ) 
 -- ---- the law
 
 pub text_law : LawOfTexts
-text_law schema old new address member cell place max text vars graph object holds write got =
+text_law schema old new address member cell place max text graph object at holds write got found =
     let cells = holds.cells_kept in
     let short = write.short in
     let sized = cell_sized schema old address cell cells write.has.there in
@@ -115,9 +115,10 @@ text_law schema old new address member cell place max text vars graph object hol
     ∙ sym (ap (λ b. cond b (is_code_written schema cell.code cell.bytes) (are_zero cell.bytes)) write.has.live)
     ∙ (and_parts (is_sized schema cell.code cell.bytes) (is_filled schema cell) (cells.written address cell write.has.there)).1)
     write.has.lies in
-    value_law schema old new address member cell place bytes (values.Text text) (record {
+    held_by_command schema old new cell member (scalars.Text text) graph object at got found
+    (value_law schema old new address member cell place bytes (scalars.Text text) (record {
       edit = record { edits = write.edits; has = write.has; sized = sized; within = apart };
-      reads = ap (value_of bytes place.offset) write.kind ∙ ap values.Text (text_read max text short place.offset cell.bytes within);
+      reads = ap (held_at bytes place.offset) write.kind ∙ ap (λ t. Some (scalars.Text t)) (text_read max text short place.offset cell.bytes within);
       slot = ap (slot_of bytes place.offset) write.kind ∙ sym (ap (slot_of cell.bytes place.offset) write.kind);
       fine = ap (is_kind_written bytes place.offset) write.kind ∙ text_written max text short place.offset cell.bytes within write.utf8 ∙ sym was;
-    }) vars graph object holds got
+    }) graph object holds got)

@@ -3,7 +3,8 @@ use Rattle.std.proofs.Common.{◌≡◌, ◌≢◌, ◌↔◌, true, refl, sym, 
 use Rattle.std.specs.declared.cmp.Ordering.{Ordering}
 use Rattle.std.specs.Cmp.{IsTotalOrder}
 use Rattle.std.specs.FinMap as maps
-use Rattle.std.specs.FinSet as sets
+use Rattle.ostore_graph_model.specs.Sets as sets
+use Rattle.ostore_graph_model.proofs.SetFacts as set_facts
 use Rattle.std.specs.FinMap.{IsAntisymmetric, nat_cmp-IsAntisymmetric, slice_cmp-IsAntisymmetric}
 use Rattle.std.proofs.lemmas.Bool.{false_from_ne_true, cases_Bool, true≢false}
 use Rattle.std.proofs.lemmas.Cmp.{nat_cmp_total, nat_list_cmp_total}
@@ -13,7 +14,7 @@ use Rattle.ostore_graph_model.specs.LawsOfMeaning.{LawOfOneGraph}
 use Rattle.ostore_graph_model.specs.MemberValues.{values_of}
 use Rattle.ostore_graph_model.specs.Records.{heap_of}
 use Rattle.ostore_graph_model.specs.StandsFor.{HasObject, HasPair, HasList, HasDictionary, HasRoot, HasIndex}
-use Rattle.ostore_graph_model.proofs.OrderLaws.{name_cmp-IsTotalOrder, name_cmp-IsAntisymmetric, pair_cmp-IsTotalOrder, pair_cmp-IsAntisymmetric, place_cmp-IsTotalOrder, place_cmp-IsAntisymmetric, index_cmp-IsTotalOrder, index_cmp-IsAntisymmetric}
+use Rattle.ostore_graph_model.proofs.OrderLaws.{name_cmp-IsTotalOrder, name_cmp-IsAntisymmetric, pair_cmp-IsTotalOrder, pair_cmp-IsAntisymmetric, object_member_cmp-IsTotalOrder, object_member_cmp-IsAntisymmetric, index_cmp-IsTotalOrder, index_cmp-IsAntisymmetric}
 
 -- maps that answer a relation alike are one
 module _ {K X : Type 0} {R : K → K → Ordering} (o : IsTotalOrder R) (same : IsAntisymmetric R) where
@@ -27,7 +28,7 @@ module _ {K X : Type 0} {R : K → K → Ordering} (o : IsTotalOrder R) (same : 
 
 module _ {K : Type 0} {R : K → K → Ordering} (o : IsTotalOrder R) (same : IsAntisymmetric R) where
   pub one_set : (s t : sets.FinSet R) (has : K → Type 0) → ((k : K) → (sets.contains s k ≡ true) ↔ has k) → ((k : K) → (sets.contains t k ≡ true) ↔ has k) → s ≡ t
-  one_set s t has first second = sets.same_set o same s t (λ k. alike k)
+  one_set s t has first second = set_facts.same_set o same s t (λ k. alike k)
     where
       alike : (k : K) → sets.contains s k ≡ sets.contains t k
       alike k = elim (cases_Bool (sets.contains s k)) [
@@ -41,8 +42,8 @@ pub one_graph : LawOfOneGraph
 one_graph schema pages graph other first second = λ i. record {
   objects = one_map name_cmp-IsTotalOrder name_cmp-IsAntisymmetric graph.objects other.objects (HasObject (heap_of schema pages) (values_of schema pages)) first.objects second.objects i;
   pairs = one_set pair_cmp-IsTotalOrder pair_cmp-IsAntisymmetric graph.pairs other.pairs (HasPair schema (heap_of schema pages)) first.pairs second.pairs i;
-  lists = one_map place_cmp-IsTotalOrder place_cmp-IsAntisymmetric graph.lists other.lists (HasList schema (heap_of schema pages)) first.lists second.lists i;
-  dictionaries = one_map place_cmp-IsTotalOrder place_cmp-IsAntisymmetric graph.dictionaries other.dictionaries (HasDictionary schema (heap_of schema pages)) first.dictionaries second.dictionaries i;
+  lists = one_map object_member_cmp-IsTotalOrder object_member_cmp-IsAntisymmetric graph.lists other.lists (HasList schema (heap_of schema pages)) first.lists second.lists i;
+  dictionaries = one_map object_member_cmp-IsTotalOrder object_member_cmp-IsAntisymmetric graph.dictionaries other.dictionaries (HasDictionary schema (heap_of schema pages)) first.dictionaries second.dictionaries i;
   roots = one_map nat_list_cmp_total (slice_cmp-IsAntisymmetric nat_cmp-IsAntisymmetric) graph.roots other.roots (HasRoot (heap_of schema pages) (roots_of pages)) first.roots second.roots i;
   serials = one_map nat_cmp_total nat_cmp-IsAntisymmetric graph.serials other.serials (λ segment serial. (serial_of pages segment ≡ serial) × (serial ≢ 0)) first.serials second.serials i;
   indexes = one_set index_cmp-IsTotalOrder index_cmp-IsAntisymmetric graph.indexes other.indexes (HasIndex schema (heap_of schema pages)) first.indexes second.indexes i;

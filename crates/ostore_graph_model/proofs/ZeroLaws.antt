@@ -13,10 +13,10 @@ use Rattle.ostore_schema_layout.specs.declared.schema.MemberDef.{MemberDef}
 use Rattle.ostore_schema_layout.specs.declared.schema.MemberKind.{MemberKind}
 use Rattle.ostore_schema_layout.specs.declared.schema.MemberKind.TheVariants as kinds
 use Rattle.ostore_schema_layout.specs.Cells.{in_fours, kind_size, places_from}
-use Rattle.ostore_graph_model.specs.declared.values.Value.TheVariants as values
-use Rattle.ostore_graph_model.specs.Step.{first_value}
+use Rattle.ostore_graph_model.specs.declared.values.Scalar.TheVariants as scalars
+use Rattle.ostore_graph_model.specs.Deeds.Objects.{first_value}
 use Rattle.ostore_graph_model.specs.CellRules.{is_text_written, is_kind_written, is_member_written}
-use Rattle.ostore_graph_model.specs.MemberValues.{text_at, value_of, value_in}
+use Rattle.ostore_graph_model.specs.MemberValues.{text_at, held_at, value_in}
 use Rattle.ostore_graph_model.specs.Records.{Slot, head_at, slot_of, slot_in}
 use Rattle.ostore_graph_model.proofs.HeapLaws.{IsEmptySlot}
 
@@ -66,9 +66,9 @@ between_zero n start stop =
 text_zero : (at max n : ℕ) → text_at at max (replicate n 0) ≡ []
 text_zero at max n = ap (λ (c : ℕ). take c (between (at + 1) (at + 1 + max) (replicate n 0))) (number_zero 1 at n)
 
-value_zero : (n at : ℕ) (kind : MemberKind) → value_of (replicate n 0) at kind ≡ first_value kind
-value_zero n at kinds.Int = ap (λ (m : ℕ). values.Int (cast_signed w64 m)) (number_zero 8 at n)
-value_zero n at (kinds.Text max) = ap values.Text (text_zero at max n)
+value_zero : (n at : ℕ) (kind : MemberKind) → held_at (replicate n 0) at kind ≡ first_value kind
+value_zero n at kinds.Int = ap (λ (m : ℕ). Some (scalars.Int (cast_signed w64 m))) (number_zero 8 at n)
+value_zero n at (kinds.Text max) = ap (λ t. Some (scalars.Text t)) (text_zero at max n)
 value_zero n at (kinds.Ref target) = refl
 value_zero n at (kinds.Set target) = refl
 value_zero n at (kinds.List target) = refl

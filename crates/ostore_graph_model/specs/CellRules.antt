@@ -15,7 +15,8 @@ use Rattle.ostore_schema_layout.specs.Numbers.{members_of}
 use Rattle.ostore_graph_model.specs.Limits.{longest_key}
 use Rattle.ostore_graph_model.specs.Addresses.{PlacedCell}
 use Rattle.ostore_graph_model.specs.MemberValues.{text_at}
-use Rattle.ostore_graph_model.specs.Records.{count_in, entry_place, name_place, name_bytes, steps_in_descriptor, path_in_descriptor, step_bytes, is_sized}
+use Rattle.ostore_graph_model.specs.Chunks.{count_in, entry_place, name_place, name_bytes, steps_in_descriptor, path_in_descriptor, step_bytes}
+use Rattle.ostore_graph_model.specs.Records.{is_sized}
 
 -- ---- objects
 

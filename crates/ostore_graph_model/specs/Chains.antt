@@ -4,18 +4,14 @@ use Rattle.std.specs.List.{flat_map, Contains}
 use Rattle.ostore_page_tags.specs.declared.layout.TheConstants.{SET_CHUNK, LIST_CHUNK, INT_DICTIONARY_CHUNK, TEXT_DICTIONARY_CHUNK}
 use Rattle.ostore_schema_layout.specs.declared.schema.MemberKind.{MemberKind}
 use Rattle.ostore_schema_layout.specs.declared.schema.MemberKind.TheVariants as kinds
-use Rattle.ostore_graph_model.specs.Records.{Slot, ChunkEntry, IndexDescriptor, Links, RowTag}
+use Rattle.ostore_graph_model.specs.Kinds.{target_of}
+use Rattle.ostore_graph_model.specs.Chunks.{ChunkEntry, IndexDescriptor}
+use Rattle.ostore_graph_model.specs.Records.{Slot, Links, RowTag}
 use Rattle.ostore_graph_model.specs.Heap.{Heap, live_cell}
 
 -- the type of the objects that a member leads to
 abbrev pub item_type : MemberKind → ℕ
-item_type kinds.Int = 0
-item_type (kinds.Text max) = 0
-item_type (kinds.Ref target) = target.0
-item_type (kinds.Set target) = target.0
-item_type (kinds.List target) = target.0
-item_type (kinds.DictInt target) = target.0
-item_type (kinds.DictText target) = target.0
+item_type kind = (target_of kind).0
 
 -- the code of a collection's chunks; no cell has the code 0
 abbrev pub chunk_code : MemberKind → ℕ

@@ -1,9 +1,9 @@
 -- What `append`, `put`, `bind` and `unbind`, and in a one-sided set `insert` and `remove`, come to on the pages, and
 -- the laws that they give the graph that the command makes.
-use Rattle.std.specs.Prelude.{◌≡◌, ◌≢◌, ◌↔◌, ◌⊎◌, ◌<◌, ℕ, ◌==◌, IsTrue, if◌then◌else◌, List, [], ◌∷◌, ◌++◌, length, map, All, Any, Some, None, slice_set, unwrap_or}
+use Rattle.std.specs.Prelude.{◌≡◌, ◌≢◌, ◌↔◌, ◌⊎◌, ◌<◌, ℕ, IsTrue, List, [], ◌∷◌, ◌++◌, length, map, All, Any, Some, None, slice_set}
 use Rattle.std.specs.List.{Contains}
 use Rattle.std.specs.FinMap as maps
-use Rattle.std.specs.FinSet as sets
+use Rattle.ostore_graph_model.specs.Sets as sets
 use Rattle.ostore_base.specs.declared.page.PageImage.{PageImage}
 use Rattle.ostore_page_tags.specs.declared.layout.TheConstants.{LIST_CHUNK, INT_DICTIONARY_CHUNK, TEXT_DICTIONARY_CHUNK}
 use Rattle.ostore_page_tags.specs.Rules.{is_type_code}
@@ -11,14 +11,18 @@ use Rattle.ostore_schema_layout.specs.declared.schema.Schema.{Schema}
 use Rattle.ostore_schema_layout.specs.declared.schema.TypeNo.{TypeNo}
 use Rattle.ostore_schema_layout.specs.declared.schema.MemberDef.{MemberDef}
 use Rattle.ostore_schema_layout.specs.declared.schema.MemberKind.TheVariants as kinds
-use Rattle.ostore_graph_model.specs.declared.values.Name.{Name}
 use Rattle.ostore_graph_model.specs.declared.commands.Key.{Key}
-use Rattle.ostore_graph_model.specs.Orders.{Side, Place, key_cmp, place_cmp}
-use Rattle.ostore_graph_model.specs.Graph.{Graph}
+use Rattle.ostore_graph_model.specs.Orders.{TypeMember, ObjectMember}
+use Rattle.ostore_graph_model.specs.Graph.{Graph, list_at}
+use Rattle.ostore_graph_model.specs.Links.{pair_at}
+use Rattle.ostore_graph_model.specs.Deeds.{LiveMember, member_at_type}
+use Rattle.ostore_graph_model.specs.Deeds.Collections.{items_of, with_items, bindings_of, with_bindings}
+use Rattle.ostore_graph_model.specs.Deeds.References.{with_joined}
 use Rattle.ostore_graph_model.specs.Addresses.{PlacedCell, cell_at}
 use Rattle.ostore_graph_model.specs.FixedPages.{roots_of, serial_of}
 use Rattle.ostore_graph_model.specs.MemberValues.{values_of}
-use Rattle.ostore_graph_model.specs.Records.{CollectionHead, Slot, ChunkEntry, RowTag, heap_of}
+use Rattle.ostore_graph_model.specs.Chunks.{ChunkEntry}
+use Rattle.ostore_graph_model.specs.Records.{CollectionHead, Slot, RowTag, heap_of}
 use Rattle.ostore_graph_model.specs.Heap.{name_in, HasMember}
 use Rattle.ostore_graph_model.specs.Chains.{chunk_code, ChainLink, IsIn, entries_of}
 use Rattle.ostore_graph_model.specs.CellRules.{is_written}
@@ -50,52 +54,44 @@ pub record WritesCollection (schema : Schema) (old new : List PageImage) (addres
   pub serials : serial_of new ≡ serial_of old
   pub pages : HasGoodPages schema new
 
--- the member of an object, by its name
-abbrev pub place_of : RowTag → ℕ → Place
-place_of tag member = record { object = name_in tag; member = record { 0 = member } }
+-- a member of an object's type, and the member of that one object
+abbrev pub type_member : RowTag → ℕ → TypeMember
+type_member tag member = record { ty = record { 0 = tag.code }; member = record { 0 = member } }
 
-abbrev pub items_of : List ChunkEntry → List ℕ
-items_of entries = map (λ entry. entry.item) entries
+abbrev pub object_member : RowTag → ℕ → ObjectMember
+object_member tag member = record { object = name_in tag; member = record { 0 = member } }
+
+abbrev pub entry_items : List ChunkEntry → List ℕ
+entry_items entries = map (λ entry. entry.item) entries
 
 -- ---- lists
-
--- the items of a list member, none where it isn't in the graph
-abbrev pub list_in : Graph → Place → List Name
-list_in graph place = unwrap_or (maps.get graph.lists place) []
 
 -- in good cells the count of a list is the number of its items in the graph
 abbrev pub LawOfListSizes : Type 0
 LawOfListSizes =
     (schema : Schema) (pages : List PageImage) (graph : Graph) (address member : ℕ) (tag : RowTag) (def : MemberDef) (head : CollectionHead)
     → HoldGraph schema pages graph → HasMember schema (heap_of schema pages) address member tag def (Slot.Begins head) → chunk_code def.kind ≡ LIST_CHUNK
-    → head.count ≡ length (list_in graph (place_of tag member))
+    → head.count ≡ length (list_at graph (object_member tag member))
 
 -- an item behind the others: the graph that `append` makes
 abbrev pub LawOfAppends : Type 0
 LawOfAppends =
-    (schema : Schema) (old new : List PageImage) (address member : ℕ) (tag : RowTag) (def : MemberDef) (before after : List ChunkEntry) (pointer : ℕ) (to : PlacedCell) (graph : Graph)
+    (schema : Schema) (old new : List PageImage) (address member : ℕ) (tag : RowTag) (def : MemberDef) (before after : List ChunkEntry) (pointer : ℕ) (to : PlacedCell) (graph : Graph) (at : LiveMember)
     → HoldGraph schema old graph → WritesCollection schema old new address member tag def before after
-    → chunk_code def.kind ≡ LIST_CHUNK → cell_at old pointer ≡ Some to → items_of after ≡ items_of before ++ pointer ∷ []
-    → LeavesGraph schema old new (record graph { lists = maps.insert graph.lists (place_of tag member) (list_in graph (place_of tag member) ++ name_of to ∷ []) })
+    → chunk_code def.kind ≡ LIST_CHUNK → cell_at old pointer ≡ Some to → entry_items after ≡ entry_items before ++ pointer ∷ []
+    → member_at_type schema (name_in tag) (type_member tag member) ≡ Some at
+    → LeavesGraph schema old new (with_items graph at (items_of graph at ++ name_of to ∷ []))
 
 -- another item at a place of the list: the graph that `put` makes
 abbrev pub LawOfPuts : Type 0
 LawOfPuts =
-    (schema : Schema) (old new : List PageImage) (address member : ℕ) (tag : RowTag) (def : MemberDef) (before after : List ChunkEntry) (index pointer : ℕ) (to : PlacedCell) (graph : Graph)
+    (schema : Schema) (old new : List PageImage) (address member : ℕ) (tag : RowTag) (def : MemberDef) (before after : List ChunkEntry) (index pointer : ℕ) (to : PlacedCell) (graph : Graph) (at : LiveMember)
     → HoldGraph schema old graph → WritesCollection schema old new address member tag def before after
-    → chunk_code def.kind ≡ LIST_CHUNK → cell_at old pointer ≡ Some to → index < length before → items_of after ≡ slice_set (items_of before) index pointer
-    → LeavesGraph schema old new (record graph { lists = maps.insert graph.lists (place_of tag member) (slice_set (list_in graph (place_of tag member)) index (name_of to)) })
+    → chunk_code def.kind ≡ LIST_CHUNK → cell_at old pointer ≡ Some to → index < length before → entry_items after ≡ slice_set (entry_items before) index pointer
+    → member_at_type schema (name_in tag) (type_member tag member) ≡ Some at
+    → LeavesGraph schema old new (with_items graph at (slice_set (items_of graph at) index (name_of to)))
 
 -- ---- dictionaries
-
--- the bindings of a dictionary member, none where it isn't in the graph
-abbrev pub dictionary_in : Graph → Place → maps.FinMap key_cmp Name
-dictionary_in graph place = unwrap_or (maps.get graph.dictionaries place) maps.empty
-
--- a graph with these bindings of a member; without any the member isn't in the graph
-abbrev pub with_bindings : Graph → Place → maps.FinMap key_cmp Name → Graph
-with_bindings graph place bindings =
-    if maps.len bindings == 0 then record graph { dictionaries = maps.remove graph.dictionaries place } else record graph { dictionaries = maps.insert graph.dictionaries place bindings }
 
 -- one of the entries binds the key to the pointer
 abbrev pub Pairs : List ChunkEntry → Key → ℕ → Type 0
@@ -107,41 +103,41 @@ IsDictionary def = (chunk_code def.kind ≡ INT_DICTIONARY_CHUNK) ⊎ (chunk_cod
 -- a key has another item, or its first one: the graph that `bind` makes
 abbrev pub LawOfBinds : Type 0
 LawOfBinds =
-    (schema : Schema) (old new : List PageImage) (address member : ℕ) (tag : RowTag) (def : MemberDef) (before after : List ChunkEntry) (key : Key) (pointer : ℕ) (to : PlacedCell) (graph : Graph)
+    (schema : Schema) (old new : List PageImage) (address member : ℕ) (tag : RowTag) (def : MemberDef) (before after : List ChunkEntry) (key : Key) (pointer : ℕ) (to : PlacedCell) (graph : Graph) (at : LiveMember)
     → HoldGraph schema old graph → WritesCollection schema old new address member tag def before after
     → IsDictionary def → cell_at old pointer ≡ Some to
     → ((other : Key) (item : ℕ) → Pairs after other item ↔ (((other ≡ key) × (item ≡ pointer)) ⊎ ((other ≢ key) × Pairs before other item)))
-    → LeavesGraph schema old new (with_bindings graph (place_of tag member) (maps.insert (dictionary_in graph (place_of tag member)) key (name_of to)))
+    → member_at_type schema (name_in tag) (type_member tag member) ≡ Some at
+    → LeavesGraph schema old new (with_bindings graph at (maps.insert (bindings_of graph at) key (name_of to)))
 
 -- a key has no item, and each entry that is left has a key: the graph that `unbind` makes
 abbrev pub LawOfUnbinds : Type 0
 LawOfUnbinds =
-    (schema : Schema) (old new : List PageImage) (address member : ℕ) (tag : RowTag) (def : MemberDef) (before after : List ChunkEntry) (key : Key) (graph : Graph)
+    (schema : Schema) (old new : List PageImage) (address member : ℕ) (tag : RowTag) (def : MemberDef) (before after : List ChunkEntry) (key : Key) (graph : Graph) (at : LiveMember)
     → HoldGraph schema old graph → WritesCollection schema old new address member tag def before after
     → IsDictionary def → All (λ entry. entry.key ≢ None) after
     → ((other : Key) (item : ℕ) → Pairs after other item ↔ ((other ≢ key) × Pairs before other item))
-    → LeavesGraph schema old new (with_bindings graph (place_of tag member) (maps.remove (dictionary_in graph (place_of tag member)) key))
+    → member_at_type schema (name_in tag) (type_member tag member) ≡ Some at
+    → LeavesGraph schema old new (with_bindings graph at (maps.remove (bindings_of graph at) key))
 
 -- ---- one-sided sets
-
--- the side of a link that a member is
-abbrev pub side_at : RowTag → ℕ → Side
-side_at tag member = record { ty = record { 0 = tag.code }; member = record { 0 = member } }
 
 -- an item more: the graph that `insert` makes
 abbrev pub LawOfInserts : Type 0
 LawOfInserts =
-    (schema : Schema) (old new : List PageImage) (address member : ℕ) (tag : RowTag) (def : MemberDef) (target : TypeNo) (before after : List ChunkEntry) (pointer : ℕ) (to : PlacedCell) (graph : Graph)
+    (schema : Schema) (old new : List PageImage) (address member : ℕ) (tag : RowTag) (def : MemberDef) (target : TypeNo) (before after : List ChunkEntry) (pointer : ℕ) (to : PlacedCell) (graph : Graph) (at : LiveMember)
     → HoldGraph schema old graph → WritesCollection schema old new address member tag def before after
     → def.kind ≡ kinds.Set target → cell_at old pointer ≡ Some to
-    → ((item : ℕ) → Contains (items_of after) item ↔ ((item ≡ pointer) ⊎ Contains (items_of before) item))
-    → LeavesGraph schema old new (record graph { pairs = sets.insert graph.pairs (record { link = side_at tag member; first = name_in tag; second = name_of to }) })
+    → ((item : ℕ) → Contains (entry_items after) item ↔ ((item ≡ pointer) ⊎ Contains (entry_items before) item))
+    → member_at_type schema (name_in tag) (type_member tag member) ≡ Some at
+    → LeavesGraph schema old new (with_joined schema graph at (name_of to))
 
 -- an item less: the graph that `remove` makes
 abbrev pub LawOfRemoves : Type 0
 LawOfRemoves =
-    (schema : Schema) (old new : List PageImage) (address member : ℕ) (tag : RowTag) (def : MemberDef) (target : TypeNo) (before after : List ChunkEntry) (pointer : ℕ) (to : PlacedCell) (graph : Graph)
+    (schema : Schema) (old new : List PageImage) (address member : ℕ) (tag : RowTag) (def : MemberDef) (target : TypeNo) (before after : List ChunkEntry) (pointer : ℕ) (to : PlacedCell) (graph : Graph) (at : LiveMember)
     → HoldGraph schema old graph → WritesCollection schema old new address member tag def before after
     → def.kind ≡ kinds.Set target → cell_at old pointer ≡ Some to → IsTrue (is_type_code to.code)
-    → ((item : ℕ) → Contains (items_of after) item ↔ ((item ≢ pointer) × Contains (items_of before) item))
-    → LeavesGraph schema old new (record graph { pairs = sets.remove graph.pairs (record { link = side_at tag member; first = name_in tag; second = name_of to }) })
+    → ((item : ℕ) → Contains (entry_items after) item ↔ ((item ≢ pointer) × Contains (entry_items before) item))
+    → member_at_type schema (name_in tag) (type_member tag member) ≡ Some at
+    → LeavesGraph schema old new (record graph { pairs = sets.remove graph.pairs (pair_at schema at.at at.owner (name_of to)) })

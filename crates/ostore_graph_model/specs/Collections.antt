@@ -1,21 +1,17 @@
 -- A collection that is changed as a whole: what `insert`, `remove`, `append`, `put`, `bind` and `unbind` make of the
 -- heap. Within such a command a chunk may have an entry that the count doesn't count yet, so laws speak of its end.
-use Rattle.std.specs.Prelude.{◌≡◌, ◌≢◌, ◌⊎◌, ℕ, true, List, [], length, map, All, Some, None, slice_set}
+use Rattle.std.specs.Prelude.{◌≡◌, ◌≢◌, ◌⊎◌, ℕ, true, List, length, All, Some, None, slice_set}
 use Rattle.std.specs.List.{slice_get}
-use Rattle.std.specs.FinMap as maps
-use Rattle.ostore_page_tags.specs.declared.layout.TheConstants.{LIST_CHUNK}
 use Rattle.ostore_page_tags.specs.Rules.{is_type_code}
 use Rattle.ostore_schema_layout.specs.declared.schema.Schema.{Schema}
 use Rattle.ostore_schema_layout.specs.declared.schema.MemberDef.{MemberDef}
 use Rattle.ostore_schema_layout.specs.Numbers.{members_of}
-use Rattle.ostore_graph_model.specs.declared.values.Name.{Name}
-use Rattle.ostore_graph_model.specs.Orders.{place_cmp}
 use Rattle.ostore_graph_model.specs.FixedPages.{RootRow}
-use Rattle.ostore_graph_model.specs.Records.{CollectionHead, Slot, ChunkEntry, Links, RowTag}
-use Rattle.ostore_graph_model.specs.Heap.{Heap, tag_at, name_at, name_in, IsRowOf, links_at, live_cell, IsObject}
+use Rattle.ostore_graph_model.specs.Chunks.{ChunkEntry}
+use Rattle.ostore_graph_model.specs.Records.{CollectionHead, Slot, Links, RowTag}
+use Rattle.ostore_graph_model.specs.Heap.{Heap, tag_at, IsRowOf, links_at, live_cell, IsObject}
 use Rattle.ostore_graph_model.specs.Chains.{item_type, chunk_code, ChainLink, IsChain, IsIn, entries_of}
 use Rattle.ostore_graph_model.specs.HeapRules.{KeepsRoots, KeepsPointers, KeepsSerials, KeepsChains, KeepsOwner, KeepsItems, IsLawfulChain}
-use Rattle.ostore_graph_model.specs.StandsFor.{ShowsLists}
 
 -- A member's collection had a chain, and has another one now, which has all cells of the first, and new ones
 -- that stand where no cell was. All else of the heap stays.

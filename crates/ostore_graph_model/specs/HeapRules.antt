@@ -11,7 +11,8 @@ use Rattle.ostore_schema_layout.specs.declared.schema.MemberKind.{MemberKind}
 use Rattle.ostore_schema_layout.specs.declared.schema.Inverse.{Inverse}
 use Rattle.ostore_schema_layout.specs.Cells.{ArePairwise, chunk_of}
 use Rattle.ostore_graph_model.specs.FixedPages.{RootRow}
-use Rattle.ostore_graph_model.specs.Records.{CollectionHead, Slot, ChunkEntry, IndexDescriptor, Links, RowTag}
+use Rattle.ostore_graph_model.specs.Chunks.{ChunkEntry, IndexDescriptor}
+use Rattle.ostore_graph_model.specs.Records.{CollectionHead, Slot, Links, RowTag}
 use Rattle.ostore_graph_model.specs.Heap.{Heap, code_at, name_in, IsRowOf, live_cell, HasMember}
 use Rattle.ostore_graph_model.specs.Chains.{item_type, chunk_code, ChainLink, IsChain, entries_of_links, entries_of, LeadsTo}
 use Rattle.ostore_graph_model.specs.Owners.{Owner, ChainHead, index_code, Owns, IsOwnedBy, object_of_owner}
@@ -57,7 +58,8 @@ pub record HasGoodEntries (schema : Schema) (heap : Heap) (address : ℕ) (entri
   pub owned : (owner : Owner) (head : ChainHead) → IsOwnedBy schema heap address owner head → AreItemsOf schema heap head.ty entries
   pub objects : All (λ entry. entry.item ≢ 0 → IsObjectRow heap entry.item) entries
 
--- the pointers of the live cell at an address: of an object, a chunk or a descriptor
+-- The pointers of the live cell at an address: of an object, a chunk or a descriptor. An entry behind a chunk's count is
+-- zero by what is asked of cells, so that nothing is asked of its pointer.
 pub record KeepsPointers (schema : Schema) (heap : Heap) (address : ℕ) : Type 0 where
   pub members : (member : ℕ) (tag : RowTag) (def : MemberDef) (slot : Slot) → HasMember schema heap address member tag def slot → HasGoodPointers schema heap def.kind slot
   pub chunks : (tag : RowTag) (next : ℕ) (entries : List ChunkEntry) → heap address ≡ Some (live_cell tag (Links.Chunk next entries)) → LeadsToChunk heap tag.code next × HasGoodEntries schema heap address entries

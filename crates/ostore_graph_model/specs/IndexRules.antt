@@ -1,7 +1,8 @@
 -- What makes the indexes of a heap good (rule 12): each has a lawful path of its own, and as its entries exactly
 -- the path values of its set's members, in order. The path values are those of the graph that the pages stand for.
-use Rattle.std.specs.Prelude.{◌≡◌, ◌≢◌, ◌↔◌, ℕ, ◌≤◌, List, [], ◌∷◌, map, take, All, Any, Some, None}
+use Rattle.std.specs.Prelude.{◌≡◌, ◌≢◌, ◌↔◌, ℕ, ◌≤◌, IsTrue, List, [], ◌∷◌, map, take, All, Any, Some, None}
 use Rattle.std.specs.List.{slice_get}
+use Rattle.std.specs.Option.{option_map}
 use Rattle.std.specs.declared.cmp.Ordering.TheVariants.{Less}
 use Rattle.std.specs.Ordering.{ordering_then}
 use Rattle.ostore_page_tags.specs.declared.layout.TheConstants.{INDEX_DESCRIPTOR}
@@ -13,19 +14,25 @@ use Rattle.ostore_schema_layout.specs.Cells.{ArePairwise}
 use Rattle.ostore_schema_layout.specs.Numbers.{members_of}
 use Rattle.ostore_graph_model.specs.declared.values.Name.{Name}
 use Rattle.ostore_graph_model.specs.declared.commands.Key.{Key}
-use Rattle.ostore_graph_model.specs.Orders.{Side, name_cmp, key_cmp}
+use Rattle.ostore_graph_model.specs.declared.commands.Key.TheVariants as keys
+use Rattle.ostore_graph_model.specs.declared.values.Scalar.{Scalar}
+use Rattle.ostore_graph_model.specs.declared.values.Scalar.TheVariants as scalars
+use Rattle.ostore_graph_model.specs.Sets as sets
+use Rattle.ostore_graph_model.specs.Orders.{TypeMember, name_cmp, key_cmp}
 use Rattle.ostore_graph_model.specs.Graph.{Graph}
 use Rattle.ostore_graph_model.specs.Limits.{most_steps}
-use Rattle.ostore_graph_model.specs.Records.{CollectionHead, Slot, ChunkEntry, PathStep, IndexDescriptor, RowTag, of_ints, of_texts}
+use Rattle.ostore_graph_model.specs.Chunks.{ChunkEntry, PathStep, IndexDescriptor, of_ints, of_texts}
+use Rattle.ostore_graph_model.specs.Records.{CollectionHead, Slot, RowTag}
 use Rattle.ostore_graph_model.specs.Heap.{Heap, name_in, name_at, HasMember}
 use Rattle.ostore_graph_model.specs.Chains.{item_type, ChainLink, IsChain, indexes_of, HasEntries}
 use Rattle.ostore_graph_model.specs.Owners.{index_code}
-use Rattle.ostore_graph_model.specs.Sides.{ArePartners, HasPathValue}
+use Rattle.ostore_graph_model.specs.Links.{side}
+use Rattle.ostore_graph_model.specs.Paths.{path_value}
 
 -- ---- paths
 
-abbrev pub step_side : PathStep → Side
-step_side step = record { ty = record { 0 = step.ty }; member = record { 0 = step.member } }
+abbrev pub step_member : PathStep → TypeMember
+step_member step = record { ty = record { 0 = step.ty }; member = record { 0 = step.member } }
 
 -- the kind of a path's last step, and its number in a descriptor
 abbrev pub IsKeyKind : MemberKind → ℕ → Type 0
@@ -52,6 +59,11 @@ used_steps index = take index.steps index.path
 
 -- ---- entries
 
+-- an int or a text as a key
+abbrev pub key_of : Scalar → Key
+key_of (scalars.Int value) = keys.Int value
+key_of (scalars.Text value) = keys.Text value
+
 -- an entry says a path value of an object, whose name it keeps
 abbrev pub Tells : Heap → Key → Name → ChunkEntry → Type 0
 Tells heap key name entry = (entry.key ≡ Some key) × (entry.name ≡ name) × (name_at heap entry.item ≡ Some name)
@@ -66,9 +78,9 @@ AreInOrder earlier later =
 
 -- The entries of an index on a set are the path values of its members: each entry tells one, each is told, and
 -- they are in order. A member without a path value has no entry.
-pub record IsIndexOf (schema : Schema) (heap : Heap) (graph : Graph) (set : Side) (owner : Name) (path : List Side) (entries : List ChunkEntry) : Type 0 where
+pub record IsIndexOf (schema : Schema) (heap : Heap) (graph : Graph) (set : TypeMember) (owner : Name) (path : List TypeMember) (entries : List ChunkEntry) : Type 0 where
   pub told : All (TellsSome heap) entries
-  pub exact : (key : Key) (name : Name) → Any (Tells heap key name) entries ↔ (ArePartners schema graph set owner name × HasPathValue schema graph name path key)
+  pub exact : (key : Key) (name : Name) → Any (Tells heap key name) entries ↔ (IsTrue (sets.contains (side schema graph set owner) name) × (option_map key_of (path_value schema graph path name) ≡ Some key))
   pub order : ArePairwise AreInOrder entries
 
 -- ---- the indexes of an object
@@ -81,7 +93,7 @@ pub record IsGoodIndex (schema : Schema) (heap : Heap) (graph : Graph) (tag : Ro
   pub sided : def.inverse ≢ None
   pub entries : List ChunkEntry
   pub has : HasEntries heap (index_code index.kind) tag.segment index.first entries
-  pub exact : IsIndexOf schema heap graph (record { ty = record { 0 = tag.code }; member = record { 0 = member } }) (name_in tag) (map step_side (used_steps index)) entries
+  pub exact : IsIndexOf schema heap graph (record { ty = record { 0 = tag.code }; member = record { 0 = member } }) (name_in tag) (map step_member (used_steps index)) entries
 
 -- the indexes of a set, along its chain of descriptors
 abbrev pub AreIndexesOf : Schema → Heap → ℕ → ℕ → RowTag → MemberDef → List ChainLink → Type 0

@@ -13,7 +13,8 @@ use Rattle.ostore_schema_layout.specs.declared.schema.Schema.{Schema}
 use Rattle.ostore_schema_layout.specs.Cells.{pointers_of}
 use Rattle.ostore_graph_model.specs.Addresses.{PlacedCell, cell_in, cell_at}
 use Rattle.ostore_graph_model.specs.FixedPages.{roots_of}
-use Rattle.ostore_graph_model.specs.Records.{pointer_at, is_sized}
+use Rattle.ostore_graph_model.specs.Chunks.{pointer_at}
+use Rattle.ostore_graph_model.specs.Records.{is_sized}
 use Rattle.ostore_graph_model.specs.Valid.{HasGoodPages, HasGoodCells}
 
 -- the image of a page in a list tells all cells of that page

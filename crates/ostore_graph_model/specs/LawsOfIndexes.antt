@@ -4,9 +4,9 @@ use Rattle.ostore_schema_layout.specs.declared.schema.Schema.{Schema}
 use Rattle.ostore_schema_layout.specs.Cells.{ArePairwise}
 use Rattle.ostore_graph_model.specs.declared.values.Name.{Name}
 use Rattle.ostore_graph_model.specs.declared.commands.Key.TheVariants as keys
-use Rattle.ostore_graph_model.specs.Orders.{Side}
+use Rattle.ostore_graph_model.specs.Orders.{TypeMember}
 use Rattle.ostore_graph_model.specs.Graph.{Graph}
-use Rattle.ostore_graph_model.specs.Records.{ChunkEntry}
+use Rattle.ostore_graph_model.specs.Chunks.{ChunkEntry}
 use Rattle.ostore_graph_model.specs.Heap.{Heap}
 use Rattle.ostore_graph_model.specs.IndexRules.{IsIndexOf}
 
@@ -19,5 +19,5 @@ AscendByInt earlier later =
 -- an index of ints has them in ascending order
 abbrev pub LawOfIndexOrder : Type 0
 LawOfIndexOrder =
-    (schema : Schema) (heap : Heap) (graph : Graph) (set : Side) (owner : Name) (path : List Side) (entries : List ChunkEntry)
+    (schema : Schema) (heap : Heap) (graph : Graph) (set : TypeMember) (owner : Name) (path : List TypeMember) (entries : List ChunkEntry)
     → IsIndexOf schema heap graph set owner path entries → ArePairwise AscendByInt entries

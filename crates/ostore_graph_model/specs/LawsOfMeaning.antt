@@ -1,10 +1,9 @@
 -- Laws of what pages mean: that it is one graph, and what small edits make of it. A law of an edit speaks of the
 -- rules' first two groups, since between the edits of one command the other two may fail.
-use Rattle.std.specs.Prelude.{◌≡◌, ◌≢◌, ◌≤◌, ℕ, ◌+◌, ℤ, Bool, ◌&&◌, not, IsTrue, List, Some}
-use Rattle.std.specs.Ordering.{is_eq}
+use Rattle.std.specs.Prelude.{◌≡◌, ◌≢◌, ◌≤◌, ℕ, ◌+◌, ℤ, IsTrue, List, Some}
 use Rattle.std.specs.List.{slice_get}
 use Rattle.std.specs.FinMap as maps
-use Rattle.std.specs.FinSet as sets
+use Rattle.ostore_graph_model.specs.Sets as sets
 use Rattle.ostore_base.specs.declared.page.PageImage.{PageImage}
 use Rattle.ostore_page_tags.specs.Limits.{most_types}
 use Rattle.ostore_page_tags.specs.Rules.{is_type_code}
@@ -14,16 +13,19 @@ use Rattle.ostore_schema_layout.specs.declared.schema.TypeDef.{TypeDef}
 use Rattle.ostore_schema_layout.specs.declared.schema.TypeNo.{TypeNo}
 use Rattle.ostore_schema_layout.specs.declared.layouts.Place.{Place}
 use Rattle.ostore_schema_layout.specs.Cells.{cell_size}
-use Rattle.ostore_graph_model.specs.declared.values.Name.{Name}
-use Rattle.ostore_graph_model.specs.declared.values.Value.TheVariants as values
-use Rattle.ostore_graph_model.specs.Orders.{Side, side_cmp, Pair, pair_cmp, name_cmp}
+use Rattle.ostore_graph_model.specs.declared.values.Scalar.TheVariants as scalars
 use Rattle.ostore_graph_model.specs.Graph.{Graph, Object}
-use Rattle.ostore_graph_model.specs.Step.{Vars, stored, new_object, drawn}
+use Rattle.ostore_graph_model.specs.Links.{parted}
+use Rattle.ostore_graph_model.specs.Deeds.{LiveMember, member_at_type}
+use Rattle.ostore_graph_model.specs.Deeds.Objects.{new_object, with_new, with_held}
+use Rattle.ostore_graph_model.specs.Deeds.References.{with_joined}
 use Rattle.ostore_graph_model.specs.Addresses.{PlacedCell, cell_at}
 use Rattle.ostore_graph_model.specs.FixedPages.{serial_of}
+use Rattle.ostore_graph_model.specs.Records.{heap_of}
+use Rattle.ostore_graph_model.specs.Heap.{IsRowOf}
 use Rattle.ostore_graph_model.specs.StandsFor.{StandsFor}
 use Rattle.ostore_graph_model.specs.Valid.{HasGoodPages, HasGoodCells, HasGoodLinks, IsValid}
-use Rattle.ostore_graph_model.specs.PageEdits.{name_of, side_of, WritesInt, WritesText, WritesRef, Draws, AddsAt, TakesPage, ReadsSame, BindsRoot, UnbindsRoot}
+use Rattle.ostore_graph_model.specs.PageEdits.{name_of, member_of, WritesInt, WritesText, WritesRef, Draws, AddsAt, TakesPage, ReadsSame, BindsRoot, UnbindsRoot}
 
 -- ---- one graph
 
@@ -57,53 +59,45 @@ LawOfNoIndexes = (schema : Schema) (pages : List PageImage) (graph : Graph) → 
 -- an int that is written gives the graph that `set` makes
 abbrev pub LawOfInts : Type 0
 LawOfInts =
-    (schema : Schema) (old new : List PageImage) (address member : ℕ) (cell : PlacedCell) (place : Place) (value : ℤ) (vars : Vars) (graph : Graph) (object : Object)
+    (schema : Schema) (old new : List PageImage) (address member : ℕ) (cell : PlacedCell) (place : Place) (value : ℤ) (graph : Graph) (object : Object) (at : LiveMember)
     → HoldGraph schema old graph → WritesInt schema old new address member cell place value → maps.get graph.objects (name_of cell) ≡ Some object
-    → LeavesGraph schema old new (stored vars graph (name_of cell) object (record { 0 = member }) (values.Int value)).graph
+    → member_at_type schema (name_of cell) (member_of cell member) ≡ Some at
+    → LeavesGraph schema old new (with_held graph at (scalars.Int value))
 
 -- and so does a text
 abbrev pub LawOfTexts : Type 0
 LawOfTexts =
-    (schema : Schema) (old new : List PageImage) (address member : ℕ) (cell : PlacedCell) (place : Place) (max : ℕ) (text : List ℕ) (vars : Vars) (graph : Graph) (object : Object)
+    (schema : Schema) (old new : List PageImage) (address member : ℕ) (cell : PlacedCell) (place : Place) (max : ℕ) (text : List ℕ) (graph : Graph) (object : Object) (at : LiveMember)
     → HoldGraph schema old graph → WritesText schema old new address member cell place max text → maps.get graph.objects (name_of cell) ≡ Some object
-    → LeavesGraph schema old new (stored vars graph (name_of cell) object (record { 0 = member }) (values.Text text)).graph
+    → member_at_type schema (name_of cell) (member_of cell member) ≡ Some at
+    → LeavesGraph schema old new (with_held graph at (scalars.Text text))
 
--- the pair joins x at a side
-abbrev pub is_from : Side → Name → Pair → Bool
-is_from side x pair = is_eq (side_cmp pair.link side) && is_eq (name_cmp pair.first x)
-
--- x is joined at a side with nobody: what `set` to null makes of the pairs
-abbrev pub parted_from : sets.FinSet pair_cmp → Side → Name → sets.FinSet pair_cmp
-parted_from pairs side x = sets.retain pairs (λ pair. not (is_from side x pair))
-
--- x is joined at a side with y alone: what `set` makes of the pairs, where the side is a one-sided reference
-abbrev pub joined_alone : sets.FinSet pair_cmp → Side → Name → Name → sets.FinSet pair_cmp
-joined_alone pairs side x y = sets.insert (parted_from pairs side x) (record { link = side; first = x; second = y })
-
--- A one-sided reference that leads to a row of its type joins the object with that row's name.
+-- A one-sided reference that leads to a row of its type joins the object with that row's name, and with nothing else.
 abbrev pub LawOfReferences : Type 0
 LawOfReferences =
-    (schema : Schema) (old new : List PageImage) (address member : ℕ) (cell : PlacedCell) (place : Place) (target : TypeNo) (pointer : ℕ) (to : PlacedCell) (graph : Graph)
+    (schema : Schema) (old new : List PageImage) (address member : ℕ) (cell : PlacedCell) (place : Place) (target : TypeNo) (pointer : ℕ) (to : PlacedCell) (graph : Graph) (at : LiveMember)
     → HoldGraph schema old graph → WritesRef schema old new address member cell place target pointer
-    → pointer ≢ 0 → cell_at old pointer ≡ Some to → to.code ≡ target.0
-    → LeavesGraph schema old new (record graph { pairs = joined_alone graph.pairs (side_of cell member) (name_of cell) (name_of to) })
+    → pointer ≢ 0 → cell_at old pointer ≡ Some to → IsRowOf schema (heap_of schema old) target.0 pointer
+    → member_at_type schema (name_of cell) (member_of cell member) ≡ Some at
+    → LeavesGraph schema old new (with_joined schema graph at (name_of to))
 
 -- One that is null parts the object from what it led to.
 abbrev pub LawOfNullReferences : Type 0
 LawOfNullReferences =
-    (schema : Schema) (old new : List PageImage) (address member : ℕ) (cell : PlacedCell) (place : Place) (target : TypeNo) (graph : Graph)
+    (schema : Schema) (old new : List PageImage) (address member : ℕ) (cell : PlacedCell) (place : Place) (target : TypeNo) (graph : Graph) (at : LiveMember)
     → HoldGraph schema old graph → WritesRef schema old new address member cell place target 0
-    → LeavesGraph schema old new (record graph { pairs = parted_from graph.pairs (side_of cell member) (name_of cell) })
+    → member_at_type schema (name_of cell) (member_of cell member) ≡ Some at
+    → LeavesGraph schema old new (record graph { pairs = parted schema at.at at.owner graph.pairs })
 
 -- ---- an object is made
 
 -- a serial that is drawn, and a cell of zeros with it, give the graph that `new` makes
 abbrev pub LawOfNewObjects : Type 0
 LawOfNewObjects =
-    (schema : Schema) (old drawing new : List PageImage) (address segment place : ℕ) (ty : TypeDef) (vars : Vars) (to : List ℕ) (graph : Graph)
+    (schema : Schema) (old drawing new : List PageImage) (address segment place : ℕ) (ty : TypeDef) (graph : Graph)
     → HoldGraph schema old graph → slice_get schema.types place ≡ Some ty → place + 1 ≤ most_types → Draws old drawing segment
     → AddsAt drawing new address segment (cell_size ty.members) (place + 1) (serial_of old segment + 1)
-    → LeavesGraph schema old new (drawn vars graph to segment (new_object schema (record { 0 = place + 1 }))).graph
+    → LeavesGraph schema old new (with_new graph segment (new_object schema (record { 0 = place + 1 })))
 
 -- ---- a root is bound or unbound
 

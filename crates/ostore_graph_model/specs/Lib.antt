@@ -10,12 +10,12 @@ pub mod Deeds
 pub mod Step
 pub mod Transaction
 pub mod History
-pub mod Sides
 -- What a list of pages says: cells, values, what leads on, and who owns it.
 pub mod Limits
 pub mod Addresses
 pub mod FixedPages
 pub mod MemberValues
+pub mod Chunks
 pub mod Records
 pub mod Heap
 pub mod Chains

@@ -3,7 +3,8 @@ use Rattle.std.specs.Prelude.{◌≡◌, ◌≢◌, ℕ, ◌==◌, if◌then◌e
 use Rattle.ostore_page_tags.specs.declared.layout.TheConstants.{INDEX_DESCRIPTOR, INT_INDEX_CHUNK, TEXT_INDEX_CHUNK}
 use Rattle.ostore_schema_layout.specs.declared.schema.Schema.{Schema}
 use Rattle.ostore_schema_layout.specs.declared.schema.MemberDef.{MemberDef}
-use Rattle.ostore_graph_model.specs.Records.{CollectionHead, Slot, IndexDescriptor, Links, RowTag, of_ints, of_texts}
+use Rattle.ostore_graph_model.specs.Chunks.{IndexDescriptor, of_ints, of_texts}
+use Rattle.ostore_graph_model.specs.Records.{CollectionHead, Slot, Links, RowTag}
 use Rattle.ostore_graph_model.specs.Heap.{Heap, code_at, links_at, HasMember}
 use Rattle.ostore_graph_model.specs.Chains.{item_type, chunk_code, ChainLink, next_of}
 

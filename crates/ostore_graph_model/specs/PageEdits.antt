@@ -24,7 +24,7 @@ use Rattle.ostore_schema_layout.specs.declared.layouts.Place.{Place}
 use Rattle.ostore_schema_layout.specs.Cells.{ArePairwise, in_fours, places_from}
 use Rattle.ostore_schema_layout.specs.Numbers.{members_of}
 use Rattle.ostore_graph_model.specs.declared.values.Name.{Name}
-use Rattle.ostore_graph_model.specs.Orders.{Side}
+use Rattle.ostore_graph_model.specs.Orders.{TypeMember}
 use Rattle.ostore_graph_model.specs.Addresses.{PlacedCell, cell_at}
 use Rattle.ostore_graph_model.specs.FixedPages.{RootRow, first_page, roots_of, serial_of}
 
@@ -83,8 +83,8 @@ pub record HasPlace (schema : Schema) (pages : List PageImage) (address member :
 abbrev pub name_of : PlacedCell → Name
 name_of cell = record { segment = cell.segment; serial = cell.serial }
 
-abbrev pub side_of : PlacedCell → ℕ → Side
-side_of cell member = record { ty = record { 0 = cell.code }; member = record { 0 = member } }
+abbrev pub member_of : PlacedCell → ℕ → TypeMember
+member_of cell member = record { ty = record { 0 = cell.code }; member = record { 0 = member } }
 
 pub record WritesInt (schema : Schema) (old new : List PageImage) (address member : ℕ) (cell : PlacedCell) (place : Place) (value : ℤ) : Type 0 where
   pub has : HasPlace schema old address member cell place
