@@ -44,3 +44,4 @@ pub mod SideLaws
 pub mod SetFacts
 pub mod JoinedFacts
 pub mod SizeLaw
+pub mod PartnerLaws

@@ -31,6 +31,7 @@ use Rattle.ostore_graph_model.proofs.OrderLaws.{type_member_cmp-IsTotalOrder, ty
 use Rattle.ostore_graph_model.proofs.ObjectLaws.{tag_of_cell}
 use Rattle.ostore_graph_model.proofs.HeapLaws.{code_of}
 use Rattle.ostore_graph_model.proofs.ItemLaws.{leads_to_row}
+use Rattle.ostore_graph_model.proofs.PartnerLaws.{side_contains}
 
 -- ---- the inverse of a member
 
@@ -129,4 +130,6 @@ link_sides_law schema pages graph at def x y holds links defined linked =
     let cells = holds.cells_kept in
     let both = by_inverse schema (heap_of schema pages) cells.pointers cells.items links holds.pages_kept.spelled.lawful graph.pairs holds.stands.pairs at def defined linked x y def.inverse refl in
     let inverse : inverse_at schema at ≡ def.inverse = ap (option_and_then (λ (d : MemberDef). d.inverse)) defined in
-    subst (λ (i : Option Inverse). (Joins schema (heap_of schema pages) at x y → sets.contains graph.pairs (pair_from at i x y) ≡ true) × (sets.contains graph.pairs (pair_from at i x y) ≡ true → Joins schema (heap_of schema pages) at x y)) (sym inverse) both
+    let paired = subst (λ (i : Option Inverse). (Joins schema (heap_of schema pages) at x y → sets.contains graph.pairs (pair_from at i x y) ≡ true) × (sets.contains graph.pairs (pair_from at i x y) ≡ true → Joins schema (heap_of schema pages) at x y)) (sym inverse) both in
+    let shown = side_contains schema graph at x y in
+    (λ j. shown.1 (paired.0 j), λ e. paired.1 (shown.0 e))

@@ -9,7 +9,7 @@ use Rattle.ostore_schema_layout.specs.Lawful.{link_target}
 use Rattle.ostore_graph_model.specs.declared.values.Name.{Name}
 use Rattle.ostore_graph_model.specs.Orders.{TypeMember, Pair}
 use Rattle.ostore_graph_model.specs.Graph.{Graph}
-use Rattle.ostore_graph_model.specs.Links.{def_of, pair_at}
+use Rattle.ostore_graph_model.specs.Links.{def_of, side}
 use Rattle.ostore_graph_model.specs.Records.{heap_of}
 use Rattle.ostore_graph_model.specs.StandsFor.{Joins, StandsFor}
 use Rattle.ostore_graph_model.specs.Valid.{HasGoodLinks}
@@ -28,11 +28,11 @@ LawOfFirstSides =
     → def_of schema pair.link ≡ Some def → def.inverse ≡ Some inverse
     → StandsBefore pair.link inverse
 
--- Where the links are good, the cells of x lead at a member to the row of y exactly where the graph has the pair that
--- joins the two there, whichever of its link's sides it is.
+-- Where the links are good, the cells of x lead at a member to the row of y exactly where y is at that side of x in the
+-- graph, whichever of its link's sides it is.
 abbrev pub LawOfSides : Type 0
 LawOfSides =
     (schema : Schema) (pages : List PageImage) (graph : Graph) (at : TypeMember) (def : MemberDef) (x y : Name)
     → HoldGraph schema pages graph → HasGoodLinks schema pages
     → def_of schema at ≡ Some def → link_target def.kind ≢ None
-    → Joins schema (heap_of schema pages) at x y ↔ (sets.contains graph.pairs (pair_at schema at x y) ≡ true)
+    → Joins schema (heap_of schema pages) at x y ↔ (sets.contains (side schema graph at x) y ≡ true)
