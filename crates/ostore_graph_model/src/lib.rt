@@ -5,6 +5,9 @@
 mod commands;
 mod history;
 mod laws;
+mod laws_of_cells;
+mod laws_of_collections;
+mod laws_of_pages;
 mod laws_of_steps;
 mod refusal;
 mod values;
@@ -16,6 +19,20 @@ pub use laws::names_are_ordered;
 pub use laws_of_steps::{
     answers_are_replies, drawn_name_stays_drawn, new_name_is_new, read_transaction_changes_nothing,
     reading_changes_nothing, refusal_changes_nothing, update_grows_no_more_than_script,
+};
+pub use laws_of_cells::{
+    cells_are_sized, held_image_tells_cells, one_cell_is_added, one_cell_is_dead,
+    one_cell_is_edited, pointers_lead_to_pages,
+};
+pub use laws_of_collections::{
+    collection_is_changed, count_is_list_size, item_is_appended, item_is_inserted, item_is_put,
+    item_is_removed, key_is_bound, key_is_unbound,
+};
+pub use laws_of_pages::{
+    each_side_shows_pairs, fresh_pages_are_empty, graph_is_one, graph_is_there, index_ascends,
+    int_is_written, link_goes_by_first_side, no_index_is_wrong, object_is_made, page_is_taken,
+    reference_is_cleared, reference_is_written, root_is_bound, root_is_unbound, same_is_read,
+    text_is_written,
 };
 pub use refusal::Refusal;
 pub use values::{Listed, Name, Names, Replies, Reply, Scalar, Value};

@@ -1,0 +1,94 @@
+//! Laws of what pages mean, each the contract of a function that does nothing. A caller who needs a law
+//! calls its function.
+
+ghost use Rattle.ostore_graph_model.specs.LawsOfMeaning.{LawOfOneGraph, LawOfSomeGraph, LawOfNoIndexes};
+ghost use Rattle.ostore_graph_model.specs.LawsOfMeaning.{LawOfInts, LawOfTexts, LawOfReferences, LawOfNullReferences, LawOfNewObjects};
+ghost use Rattle.ostore_graph_model.specs.LawsOfMeaning.{LawOfTakenPages, LawOfSameReading};
+ghost use Rattle.ostore_graph_model.specs.LawsOfMeaning.{LawOfBoundRoots, LawOfUnboundRoots};
+ghost use Rattle.ostore_graph_model.specs.LawsOfFreshPages.{LawOfFreshPages};
+ghost use Rattle.ostore_graph_model.specs.LawsOfLinks.{LawOfFirstSides, LawOfSides};
+ghost use Rattle.ostore_graph_model.specs.LawsOfIndexes.{LawOfIndexOrder};
+
+/// Pages stand for one graph at most.
+pub fn graph_is_one()
+    ensures { LawOfOneGraph }
+{}
+
+/// Pages whose cells are good stand for a graph; so valid pages stand for one.
+pub fn graph_is_there()
+    ensures { LawOfSomeGraph }
+{}
+
+/// Where no index is declared, the rules on pages, cells and links are all that valid pages want.
+pub fn no_index_is_wrong()
+    ensures { LawOfNoIndexes }
+{}
+
+/// An int that is written into a live object leaves good pages, which stand for what `set` makes of the
+/// graph.
+pub fn int_is_written()
+    ensures { LawOfInts }
+{}
+
+/// A text that is written into a live object does so too.
+pub fn text_is_written()
+    ensures { LawOfTexts }
+{}
+
+/// A one-sided reference that is written into a live object leaves good pages, which stand for the graph in
+/// which the object is joined with what it leads to, and with nothing else.
+pub fn reference_is_written()
+    ensures { LawOfReferences }
+{}
+
+/// A one-sided reference that is null leaves good pages, which stand for the graph in which the object is joined
+/// with nothing at that side.
+pub fn reference_is_cleared()
+    ensures { LawOfNullReferences }
+{}
+
+/// A serial that is drawn and a cell of zeros with it leave good pages, which stand for what `new` makes of
+/// the graph.
+pub fn object_is_made()
+    ensures { LawOfNewObjects }
+{}
+
+/// A root that is bound to an object's row is bound to its name, and the other roots stay.
+pub fn root_is_bound()
+    ensures { LawOfBoundRoots }
+{}
+
+/// A root that is unbound is gone, and the other roots stay.
+pub fn root_is_unbound()
+    ensures { LawOfUnboundRoots }
+{}
+
+/// A page that is taken from the free list changes nothing of the graph.
+pub fn page_is_taken()
+    ensures { LawOfTakenPages }
+{}
+
+/// Lists of pages from which the same is read mean the same.
+pub fn same_is_read()
+    ensures { LawOfSameReading }
+{}
+
+/// A fresh list of pages is valid, and stands for the empty graph.
+pub fn fresh_pages_are_empty()
+    ensures { LawOfFreshPages }
+{}
+
+/// A pair of a two-sided link is in the graph by the side that stands first in the schema's text.
+pub fn link_goes_by_first_side()
+    ensures { LawOfFirstSides }
+{}
+
+/// Where the links are good, each side of a link, the second one too, shows exactly the graph's pairs.
+pub fn each_side_shows_pairs()
+    ensures { LawOfSides }
+{}
+
+/// An index of ints has its entries by ascending int.
+pub fn index_ascends()
+    ensures { LawOfIndexOrder }
+{}
