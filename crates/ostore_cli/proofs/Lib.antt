@@ -5,4 +5,3 @@ pub mod PlainTables
 pub mod PlainLookup
 pub mod PlainRun
 pub mod ReportLaws
-pub mod PlainBuilt

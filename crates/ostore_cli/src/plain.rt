@@ -3,12 +3,10 @@
 mod commands;
 mod graph;
 mod lookup;
-mod stop;
 #[cfg(test)]
 mod tests;
 mod txn;
 mod vars;
 
 pub(crate) use graph::PlainGraph;
-pub(crate) use stop::Stop;
 pub(crate) use txn::run_txn;

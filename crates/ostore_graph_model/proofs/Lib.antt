@@ -45,3 +45,7 @@ pub mod SetFacts
 pub mod JoinedFacts
 pub mod SizeLaw
 pub mod PartnerLaws
+pub mod StepLaws
+pub mod GrowthLaws
+pub mod Computing
+pub mod Rows

@@ -126,6 +126,14 @@ pub record Deed : Type 0 where
   pub tests : List Test
   pub gives : Stepped
 
+-- the first refusal of some tests, or else the effect
+abbrev pub refused_or : Option Refusal → Vars → Graph → Stepped → Stepped
+refused_or None vars graph effect = effect
+refused_or (Some refusal) vars graph effect = refused refusal vars graph
+
+abbrev pub outcome : Vars → Graph → Deed → Stepped
+outcome vars graph deed = refused_or (first_refusal deed.tests) vars graph deed.gives
+
 -- objects as they are listed: one that isn't live is shown as deleted
 abbrev pub listed : Graph → List Name → List Listed
 listed graph names = map (λ x. record { name = x; dead = not (is_live graph x) }) names

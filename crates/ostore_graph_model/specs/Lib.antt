@@ -9,7 +9,10 @@ pub mod Paths
 pub mod Deeds
 pub mod Step
 pub mod Transaction
+pub mod LawsOfSteps
 pub mod History
+pub mod Growth
+pub mod Examples
 -- What a list of pages says: cells, values, what leads on, and who owns it.
 pub mod Limits
 pub mod Addresses

@@ -8,8 +8,10 @@ mod laws;
 mod laws_of_cells;
 mod laws_of_collections;
 mod laws_of_pages;
+mod laws_of_steps;
 mod refusal;
 mod values;
+mod worked;
 
 pub use commands::{Command, Commands, Idents, Key, Op, Operand, Script, Txn, TxnLists, Txns};
 pub use history::{Committed, Entry};
@@ -28,5 +30,13 @@ pub use laws_of_pages::{
     reference_is_cleared, reference_is_written, root_is_bound, root_is_unbound, same_is_read,
     text_is_written,
 };
+pub use laws_of_steps::{
+    answers_are_replies, drawn_name_stays_drawn, new_name_is_new, read_transaction_changes_nothing,
+    reading_changes_nothing, refusal_changes_nothing, update_grows_no_more_than_script,
+};
 pub use refusal::Refusal;
 pub use values::{Listed, Name, Names, Replies, Reply, Scalar, Value};
+pub use worked::{
+    dangling_reference, deleted_item, displaced_partners, lists_and_dictionaries,
+    order_of_refusals, path_queries, reading_only, set_items,
+};

@@ -1,41 +1,44 @@
 //! One command on a graph and the variables of its transaction.
 
-ghost use Rattle.std.specs.Prelude.{◌≡◌, ◌+◌, ◌^◌, ◌<◌, length, map, position, slice_get, Some, None, IfOk, IsErrOf};
+ghost use Rattle.std.specs.Prelude.{◌≡◌, ◌+◌, ◌^◌, ◌<◌, true, length, map, position, slice_get, Some, IfOk};
 ghost use Rattle.std.specs.Ordering.{eq_by_cmp};
+ghost use Rattle.ostore_schema_layout.specs.Numbers.{type_named, type_of_place, member_of_place};
 ghost use Rattle.ostore_graph_model.specs.Orders.{name_cmp};
 ghost use Rattle.ostore_graph_model.specs.Graph.{last_serial};
-ghost use Rattle.ostore_schema_layout.specs.Numbers.{type_named, type_of_place, member_of_place};
-ghost use Rattle.ostore_graph_model.specs.Step.{Vars, step, new_of, first_value, value_at, drawn, greatest_serial, at_member, get_of, set_int_of};
+ghost use Rattle.ostore_graph_model.specs.Paths.{held};
+ghost use Rattle.ostore_graph_model.specs.Deeds.{Vars};
+ghost use Rattle.ostore_graph_model.specs.Deeds.Objects.{greatest_serial, first_value, shown_scalar, drawn};
+ghost use Rattle.ostore_job_text.specs.Spelling.{IsBuiltCommand};
 ghost use Rattle.ostore_cli.specs.declared.plain.graph.PlainObject.{PlainObject};
-ghost use Rattle.ostore_cli.specs.Plain.{graph_of, vars_of, object_of};
+ghost use Rattle.ostore_cli.specs.Plain.{graph_of, vars_of, object_of, Gives, GetsFound, SetsFound, step_on, new_on};
 
 use crate::plain::graph::{PlainGraph, PlainObject, put_member, put_object, put_serial};
 use crate::plain::lookup::{Found, find_place, type_members};
-use crate::plain::stop::Stop;
 use crate::plain::vars::PlainVars;
 use ostore_base::{OutOfMemory, Text};
-use ostore_graph_model::{Command, Name, Operand, Refusal, Reply, Value};
+use ostore_graph_model::{Command, Name, Operand, Refusal, Reply, Scalar, Value};
 use ostore_schema_layout::{MemberDef, MemberKind, Schema, place_named};
 use std::alloc::Global;
 
 /// What a member of a new object holds.
-fn initial_value(alloc: Global, kind: MemberKind) -> Value
+fn initial_value(alloc: Global, kind: MemberKind) -> Option<Scalar>
     ensures { result ≡ first_value kind }
 {
     match kind {
-        MemberKind::Int => Value::Int(0),
-        MemberKind::Text { max: _ } => Value::Text(Text::new(alloc)),
-        MemberKind::Ref { target: _ } => Value::Null,
-        MemberKind::Set { target: _ } => Value::Null,
-        MemberKind::List { target: _ } => Value::Null,
-        MemberKind::DictInt { target: _ } => Value::Null,
-        MemberKind::DictText { target: _ } => Value::Null,
+        MemberKind::Int => Some(Scalar::Int(0)),
+        MemberKind::Text { max: _ } => Some(Scalar::Text(Text::new(alloc))),
+        MemberKind::Ref { target: _ } => None,
+        MemberKind::Set { target: _ } => None,
+        MemberKind::List { target: _ } => None,
+        MemberKind::DictInt { target: _ } => None,
+        MemberKind::DictText { target: _ } => None,
     }
 }
 
 /// What the members of a new object hold.
-fn initial_values(alloc: Global, members: &[MemberDef]) -> Result<Vec<Value>, OutOfMemory>
-    ensures { IfOk result (λ values. values.items ≡ map (λ member. first_value member.kind) members.now) }
+fn initial_values(alloc: Global, members: &[MemberDef]) -> Result<Vec<Option<Scalar>>, OutOfMemory>
+    ensures { IfOk result
+        (λ values. values.items ≡ map (λ member. first_value member.kind) members.now) }
 {
     let mut values = Vec::new(alloc);
     for member in members {
@@ -44,25 +47,33 @@ fn initial_values(alloc: Global, members: &[MemberDef]) -> Result<Vec<Value>, Ou
     Ok(values)
 }
 
-/// An equal value.
-fn copy_value(value: &Value) -> Result<Value, OutOfMemory>
-    ensures { IfOk result (λ copied. copied ≡ value.now) }
+/// An int or a text as it is shown.
+fn show(scalar: &Scalar) -> Result<Value, OutOfMemory>
+    ensures { IfOk result (λ value. value ≡ shown_scalar (Some scalar.now)) }
 {
-    match value {
-        Value::Int(number) => Ok(Value::Int(*number)),
-        Value::Text(text) => Ok(Value::Text(text.copy()?)),
-        Value::Object(name) => Ok(Value::Object(*name)),
-        Value::Dead(name) => Ok(Value::Dead(*name)),
-        Value::Null => Ok(Value::Null),
+    match scalar {
+        Scalar::Int(number) => Ok(Value::Int(*number)),
+        Scalar::Text(text) => Ok(Value::Text(text.copy()?)),
+    }
+}
+
+/// What a member holds, as it is shown.
+fn show_held(held: &Option<Scalar>) -> Result<Value, OutOfMemory>
+    ensures { IfOk result (λ value. value ≡ shown_scalar held.now) }
+{
+    match held {
+        Some(scalar) => show(scalar),
+        None => Ok(Value::Null),
     }
 }
 
 /// The value of the member at a place, and Null where there is none.
-fn value_at_place(values: &[Value], place: usize) -> Result<Value, OutOfMemory>
-    ensures { IfOk result (λ value. value ≡ value_at values.now (member_of_place place)) }
+fn value_at_place(object: &PlainObject, place: usize) -> Result<Value, OutOfMemory>
+    ensures { IfOk result
+        (λ value. value ≡ shown_scalar (held (object_of object.now) (member_of_place place))) }
 {
-    match values.get(place) {
-        Some(value) => copy_value(value),
+    match object.values.get(place) {
+        Some(held) => show_held(held),
         None => Ok(Value::Null),
     }
 }
@@ -76,7 +87,9 @@ fn draw(
     object: PlainObject,
 ) -> Result<Reply, OutOfMemory>
     requires { last_serial (graph_of graph.old) segment < greatest_serial }
-    ensures { IfOk result (λ reply. drawn (vars_of vars.old) (graph_of graph.old) to.now segment (object_of object) ≡ record { reply = reply; vars = vars_of vars.new; graph = graph_of graph.new }) }
+    ensures { IfOk result (λ reply. Gives
+        (drawn (vars_of vars.old) (graph_of graph.old) to.now segment (object_of object))
+        reply vars.new graph.new) }
 {
     let serial = graph.last_serial(segment) + 1;
     let name = Name { segment, serial };
@@ -97,7 +110,9 @@ fn new_of_type(
     place: usize,
 ) -> Result<Reply, OutOfMemory>
     requires { place + 1 < 2 ^ 64 }
-    ensures { IfOk result (λ reply. new_of schema.now (vars_of vars.old) (graph_of graph.old) to.now segment (Some (type_of_place place)) ≡ record { reply = reply; vars = vars_of vars.new; graph = graph_of graph.new }) }
+    ensures { IfOk result (λ reply. Gives
+        (new_on schema.now vars.old graph.old to.now segment (Some (type_of_place place)))
+        reply vars.new graph.new) }
 {
     if graph.last_serial(segment) == u32::MAX {
         return Ok(Reply::Refused(Refusal::SerialsSpent));
@@ -108,7 +123,7 @@ fn new_of_type(
     draw(graph, vars, to, segment, object)
 }
 
-/// `new`
+/// `new`, in an update
 fn run_new(
     alloc: Global,
     schema: &Schema,
@@ -118,7 +133,9 @@ fn run_new(
     ty: &Text,
     segment: u8,
 ) -> Result<Reply, OutOfMemory>
-    ensures { IfOk result (λ reply. new_of schema.now (vars_of vars.old) (graph_of graph.old) to.now segment (type_named schema.now ty.now) ≡ record { reply = reply; vars = vars_of vars.new; graph = graph_of graph.new }) }
+    ensures { IfOk result (λ reply. Gives
+        (new_on schema.now vars.old graph.old to.now segment (type_named schema.now ty.now))
+        reply vars.new graph.new) }
 {
     match place_named(schema.types.items(), ty.bytes()) {
         Some(place) => new_of_type(alloc, schema, graph, vars, to, segment, place),
@@ -126,19 +143,16 @@ fn run_new(
     }
 }
 
-/// `get` of a member that was found
-fn get_found(graph: &PlainGraph, found: Found) -> Result<Reply, Stop>
+/// `get` of a member that was found. No object of a plain graph has a partner yet.
+fn get_found(graph: &PlainGraph, found: Found) -> Result<Reply, OutOfMemory>
     requires { found.place < length graph.now.objects.items }
-    ensures ok { (vars : Vars) (object : PlainObject) → slice_get graph.now.objects.items found.place ≡ Some (found.name, object) → IfOk result (λ reply. get_of vars (graph_of graph.now) (object_of object) (member_of_place found.member) found.kind ≡ Some (record { reply = reply; vars = vars; graph = graph_of graph.now })) }
-    ensures not_built { (vars : Vars) (object : PlainObject) → IsErrOf result Stop.NotBuilt → get_of vars (graph_of graph.now) (object_of object) (member_of_place found.member) found.kind ≡ None }
+    ensures { IfOk result (λ reply. (vars : Vars) → GetsFound vars graph.now found reply) }
 {
     let (_, object) = &graph.objects[found.place];
     match found.kind {
-        MemberKind::Int => Ok(Reply::Value(value_at_place(&object.values, found.member)?)),
-        MemberKind::Text { max: _ } => {
-            Ok(Reply::Value(value_at_place(&object.values, found.member)?))
-        }
-        MemberKind::Ref { target: _ } => Err(Stop::NotBuilt),
+        MemberKind::Int => Ok(Reply::Value(value_at_place(object, found.member)?)),
+        MemberKind::Text { max: _ } => Ok(Reply::Value(value_at_place(object, found.member)?)),
+        MemberKind::Ref { target: _ } => Ok(Reply::Value(Value::Null)),
         MemberKind::Set { target: _ } => Ok(Reply::Refused(Refusal::WrongKind)),
         MemberKind::List { target: _ } => Ok(Reply::Refused(Refusal::WrongKind)),
         MemberKind::DictInt { target: _ } => Ok(Reply::Refused(Refusal::WrongKind)),
@@ -149,13 +163,15 @@ fn get_found(graph: &PlainGraph, found: Found) -> Result<Reply, Stop>
 /// `get`
 fn run_get(
     schema: &Schema,
+    update: bool,
     graph: &PlainGraph,
     vars: &PlainVars,
     object: &Text,
     member: &Text,
-) -> Result<Reply, Stop>
-    ensures ok { IfOk result (λ reply. at_member schema.now (vars_of vars.now) (graph_of graph.now) object.now member.now (λ name found number kind. get_of (vars_of vars.now) (graph_of graph.now) found number kind) ≡ Some (record { reply = reply; vars = vars_of vars.now; graph = graph_of graph.now })) }
-    ensures not_built { IsErrOf result Stop.NotBuilt → at_member schema.now (vars_of vars.now) (graph_of graph.now) object.now member.now (λ name found number kind. get_of (vars_of vars.now) (graph_of graph.now) found number kind) ≡ None }
+) -> Result<Reply, OutOfMemory>
+    ensures { IfOk result (λ reply. Gives
+        (step_on schema.now update vars.now graph.now (Command.Get object.now member.now))
+        reply vars.now graph.now) }
 {
     match find_place(schema, graph, vars, object, member) {
         Ok(found) => get_found(graph, found),
@@ -166,7 +182,7 @@ fn run_get(
 /// `set` of a member that was found to a whole number
 fn set_found(graph: &mut PlainGraph, found: Found, value: i64) -> Reply
     requires { found.place < length graph.old.objects.items }
-    ensures { (vars : Vars) (object : PlainObject) → Some found.place ≡ position (λ entry. eq_by_cmp name_cmp found.name entry.0) graph.old.objects.items → slice_get graph.old.objects.items found.place ≡ Some (found.name, object) → set_int_of vars (graph_of graph.old) (Value.Int value) found.name (object_of object) (member_of_place found.member) found.kind ≡ record { reply = result; vars = vars; graph = graph_of graph.new } }
+    ensures { (vars : Vars) → SetsFound vars graph.old found (Scalar.Int value) result graph.new }
 {
     match found.kind {
         MemberKind::Int => {
@@ -174,7 +190,7 @@ fn set_found(graph: &mut PlainGraph, found: Found, value: i64) -> Reply
                 &mut graph.objects,
                 found.place,
                 found.member,
-                Value::Int(value),
+                Scalar::Int(value),
             );
             Reply::Done
         }
@@ -191,7 +207,8 @@ fn set_int(
     member: &Text,
     value: i64,
 ) -> Reply
-    ensures { at_member schema.now (vars_of vars.now) (graph_of graph.old) object.now member.now (λ name found number kind. Some (set_int_of (vars_of vars.now) (graph_of graph.old) (Value.Int value) name found number kind)) ≡ Some (record { reply = result; vars = vars_of vars.now; graph = graph_of graph.new }) }
+    ensures { Gives (step_on schema.now true vars.now graph.old
+        (Command.Set object.now member.now (Operand.Int value))) result vars.now graph.new }
 {
     match find_place(schema, graph, vars, object, member) {
         Ok(found) => set_found(graph, found, value),
@@ -208,18 +225,19 @@ fn run_set(
     object: &Text,
     member: &Text,
     value: &Operand,
-) -> Result<Reply, Stop>
-    ensures ok { IfOk result (λ reply. step schema.now update (vars_of vars.now) (graph_of graph.old) (Command.Set object.now member.now value.now) ≡ Some (record { reply = reply; vars = vars_of vars.now; graph = graph_of graph.new })) }
-    ensures not_built { IsErrOf result Stop.NotBuilt → step schema.now update (vars_of vars.now) (graph_of graph.old) (Command.Set object.now member.now value.now) ≡ None }
+) -> Reply
+    requires built { IsBuiltCommand (Command.Set object.now member.now value.now) }
+    ensures { Gives (step_on schema.now update vars.now graph.old
+        (Command.Set object.now member.now value.now)) result vars.now graph.new }
 {
     match value {
-        Operand::Int(_) if !update => Ok(Reply::Refused(Refusal::ReadOnly)),
-        Operand::Int(number) => Ok(set_int(schema, graph, vars, object, member, *number)),
-        _ => Err(Stop::NotBuilt),
+        Operand::Int(_) if !update => Reply::Refused(Refusal::ReadOnly),
+        Operand::Int(number) => set_int(schema, graph, vars, object, member, *number),
+        _ => unreachable!(),
     }
 }
 
-/// Runs one command. A refusal is a reply, and changes nothing.
+/// Runs one command that is built. A refusal is a reply, and changes nothing.
 pub(crate) fn run_command(
     alloc: Global,
     schema: &Schema,
@@ -227,24 +245,25 @@ pub(crate) fn run_command(
     graph: &mut PlainGraph,
     vars: &mut PlainVars,
     command: &Command,
-) -> Result<Reply, Stop>
-    ensures ok { IfOk result (λ reply. step schema.now update (vars_of vars.old) (graph_of graph.old) command.now ≡ Some (record { reply = reply; vars = vars_of vars.new; graph = graph_of graph.new })) }
-    ensures not_built { IsErrOf result Stop.NotBuilt → step schema.now update (vars_of vars.old) (graph_of graph.old) command.now ≡ None }
+) -> Result<Reply, OutOfMemory>
+    requires built { IsBuiltCommand command.now }
+    ensures { IfOk result (λ reply. Gives
+        (step_on schema.now update vars.old graph.old command.now) reply vars.new graph.new) }
 {
     match command {
         Command::New { to, ty, segment } => {
             if update {
-                Ok(run_new(alloc, schema, graph, vars, to, ty, *segment)?)
+                run_new(alloc, schema, graph, vars, to, ty, *segment)
             } else {
                 Ok(Reply::Refused(Refusal::ReadOnly))
             }
         }
-        Command::Get { object, member } => run_get(schema, graph, vars, object, member),
+        Command::Get { object, member } => run_get(schema, update, graph, vars, object, member),
         Command::Set {
             object,
             member,
             value,
-        } => run_set(schema, update, graph, vars, object, member, value),
-        _ => Err(Stop::NotBuilt),
+        } => Ok(run_set(schema, update, graph, vars, object, member, value)),
+        _ => unreachable!(),
     }
 }

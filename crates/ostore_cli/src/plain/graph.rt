@@ -1,26 +1,23 @@
 //! The objects and the serials as plain lists. A put overwrites the first entry of its key, or adds
 //! one at the end.
 
-ghost use Rattle.std.specs.Prelude.{◌≡◌, ◌<◌, length, map, position, slice_set, slice_index_or, Some, OnOk};
+ghost use Rattle.std.specs.Prelude.{◌≡◌, ◌<◌, length, position, slice_set, Some, OnOk};
 ghost use Rattle.std.specs.FinMap as maps;
 ghost use Rattle.std.specs.Ordering.{eq_by_cmp, nat_cmp};
 ghost use Rattle.ostore_graph_model.specs.Orders.{name_cmp};
 ghost use Rattle.ostore_graph_model.specs.Graph.{empty_graph, last_serial};
 ghost use Rattle.ostore_schema_layout.specs.Numbers.{member_of_place};
-ghost use Rattle.ostore_graph_model.specs.Step.{with_value};
-ghost use Rattle.ostore_graph_model.specs.declared.values.Name.{Name};
-ghost use Rattle.ostore_cli.specs.declared.plain.graph.PlainObject.{PlainObject};
-ghost use Rattle.ostore_cli.specs.Plain.{object_of, entry_of, objects_of, graph_of};
+ghost use Rattle.ostore_cli.specs.Plain.{object_of, objects_of, serials_of, graph_of, HoldsValue};
 
 use ostore_base::OutOfMemory;
-use ostore_graph_model::{Name, Value};
+use ostore_graph_model::{Name, Scalar};
 use std::alloc::{AllocError, Global};
 
 /// A live object: the number of its type, from 1, and the values of its members in order.
 #[derive(Debug, Drop)]
 pub(crate) struct PlainObject {
     pub(crate) ty: usize,
-    pub(crate) values: Vec<Value>,
+    pub(crate) values: Vec<Option<Scalar>>,
 }
 
 /// A graph: the live objects by name, and the last serial of each segment that has drawn one.
@@ -72,7 +69,8 @@ pub(crate) fn put_serial(
     segment: u8,
     serial: u32,
 ) -> Result<(), OutOfMemory>
-    ensures { OnOk result (maps.from_entries {R = nat_cmp} serials.new.items ≡ maps.insert (maps.from_entries serials.old.items) segment serial) }
+    ensures { OnOk result
+        (serials_of serials.new.items ≡ maps.insert (serials_of serials.old.items) segment serial) }
 {
     match serial_place(serials, segment) {
         Some(place) => serials[place] = (segment, serial),
@@ -87,7 +85,8 @@ pub(crate) fn put_object(
     name: Name,
     object: PlainObject,
 ) -> Result<(), OutOfMemory>
-    ensures { OnOk result (objects_of objects.new.items ≡ maps.insert (objects_of objects.old.items) name (object_of object)) }
+    ensures { OnOk result (objects_of objects.new.items
+        ≡ maps.insert (objects_of objects.old.items) name (object_of object)) }
 {
     match object_place(objects, name) {
         Some(place) => objects[place] = (name, object),
@@ -97,11 +96,11 @@ pub(crate) fn put_object(
 }
 
 /// Puts a value at a place, where there is such a place.
-fn put_value(values: &mut Vec<Value>, place: usize, value: Value)
-    ensures { values.new.items ≡ slice_set values.old.items place value }
+fn put_value(values: &mut Vec<Option<Scalar>>, place: usize, value: Scalar)
+    ensures { values.new.items ≡ slice_set values.old.items place (Some value) }
 {
     if place < values.len() {
-        values[place] = value;
+        values[place] = Some(value);
     }
 }
 
@@ -110,10 +109,10 @@ pub(crate) fn put_member(
     objects: &mut Vec<(Name, PlainObject)>,
     place: usize,
     member: usize,
-    value: Value,
+    value: Scalar,
 )
     requires { place < length objects.old.items }
-    ensures { (other : Name × PlainObject) → let entry = slice_index_or objects.old.items place other in map entry_of objects.new.items ≡ slice_set (map entry_of objects.old.items) place (entry.0, with_value (object_of entry.1) (member_of_place member) value) }
+    ensures { HoldsValue objects.old.items objects.new.items place (member_of_place member) value }
 {
     put_value(&mut objects[place].1.values, member, value);
 }

@@ -1,13 +1,8 @@
 //! The object and the member that a command works on.
 
-ghost use Rattle.std.specs.Prelude.{◌≡◌, Option, Some, IfOk, IfErr};
-ghost use Rattle.ostore_graph_model.specs.declared.values.Name.{Name};
-ghost use Rattle.ostore_schema_layout.specs.declared.schema.MemberKind.{MemberKind};
-ghost use Rattle.ostore_graph_model.specs.Graph.{Object};
-ghost use Rattle.ostore_schema_layout.specs.declared.schema.MemberNo.{MemberNo};
+ghost use Rattle.std.specs.Prelude.{◌≡◌, IfOk, IfErr};
 ghost use Rattle.ostore_schema_layout.specs.Numbers.{members_of};
-ghost use Rattle.ostore_graph_model.specs.Step.{Stepped, at_member, refused};
-ghost use Rattle.ostore_cli.specs.Plain.{graph_of, vars_of, IsFound};
+ghost use Rattle.ostore_cli.specs.Plain.{IsFound, IsMissing};
 
 use crate::plain::graph::{PlainGraph, object_place};
 use crate::plain::vars::PlainVars;
@@ -46,8 +41,10 @@ pub(crate) fn find_place(
     variable: &Text,
     member: &Text,
 ) -> Result<Found, Refusal>
-    ensures found { IfOk result (λ found. IsFound schema.now vars.now graph.now variable.now member.now found) }
-    ensures refused { IfErr result (λ refusal. (next : Name → Object → MemberNo → MemberKind → Option Stepped) → at_member schema.now (vars_of vars.now) (graph_of graph.now) variable.now member.now next ≡ Some (refused refusal (vars_of vars.now) (graph_of graph.now))) }
+    ensures found { IfOk result
+        (λ found. IsFound schema.now vars.now graph.now variable.now member.now found) }
+    ensures missing { IfErr result
+        (λ refusal. IsMissing schema.now vars.now graph.now variable.now member.now refusal) }
 {
     let Some(name) = vars.get(variable) else {
         return Err(Refusal::NoVariable);

@@ -47,7 +47,8 @@ impl PlainVars {
 
     /// Binds a variable to a name.
     pub(crate) fn bind(&mut self, variable: &Text, name: Name) -> Result<(), OutOfMemory>
-        ensures { OnOk result (vars_of self.new ≡ maps.insert (vars_of self.old) variable.now name) }
+        ensures { OnOk result
+            (vars_of self.new ≡ maps.insert (vars_of self.old) variable.now name) }
     {
         let entry = (variable.copy()?, name);
         match var_place(&self.bound, variable) {

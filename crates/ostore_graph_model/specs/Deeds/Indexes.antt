@@ -1,11 +1,12 @@
 -- Declared indexes and queries: `index`, `unindex`, `query`.
-use Rattle.std.specs.Prelude.{ℕ, Bool, false, not, ◌&&◌, ◌||◌, if◌then◌else◌, List, [], ◌∷◌, map, Option, Some, None, Result, Ok, Err}
+use Rattle.std.specs.Prelude.{ℕ, Bool, true, false, not, ◌&&◌, ◌||◌, if◌then◌else◌, List, [], ◌∷◌, map, Option, Some, None, Result, Ok, Err}
 use Rattle.std.specs.List.{list_any}
 use Rattle.std.specs.Option.{option_map_or}
 use Rattle.std.specs.Result.{result_map_both}
 use Rattle.ostore_schema_layout.specs.declared.schema.Schema.{Schema}
 use Rattle.ostore_schema_layout.specs.declared.schema.TypeNo.{TypeNo}
 use Rattle.ostore_schema_layout.specs.declared.schema.MemberNo.{MemberNo}
+use Rattle.ostore_schema_layout.specs.declared.schema.MemberDef.{MemberDef}
 use Rattle.ostore_schema_layout.specs.declared.schema.MemberKind.{MemberKind}
 use Rattle.ostore_schema_layout.specs.declared.schema.MemberKind.TheVariants as kinds
 use Rattle.ostore_schema_layout.specs.Numbers.{member_named}
@@ -86,17 +87,23 @@ index_on at path = record { set = own_member at; path = map (λ member. member.m
 abbrev pub is_declared : Graph → LiveMember → Path → Bool
 is_declared graph at path = sets.contains graph.indexes (index_on at path)
 
-abbrev pub index_deed : Schema → Vars → Graph → Path → LiveMember → Deed
-index_deed schema vars graph path at = record {
+abbrev pub index_by : Schema → Vars → Graph → LiveMember → Path → Deed
+index_by schema vars graph at path = record {
   tests = wrong_path path ∷ not_indexable schema at path ∷ refused_where (is_declared graph at path) IndexThere ∷ [];
   gives = done vars (record graph { indexes = sets.insert graph.indexes (index_on at path) });
 }
 
-abbrev pub unindex_deed : Vars → Graph → Path → LiveMember → Deed
-unindex_deed vars graph path at = record {
+abbrev pub index_deed : Schema → Vars → Graph → List (List ℕ) → LiveMember → Deed
+index_deed schema vars graph names at = index_by schema vars graph at (path_at schema at names)
+
+abbrev pub unindex_by : Vars → Graph → LiveMember → Path → Deed
+unindex_by vars graph at path = record {
   tests = wrong_path path ∷ refused_where (not (is_declared graph at path)) NoIndex ∷ [];
   gives = done vars (record graph { indexes = sets.remove graph.indexes (index_on at path) });
 }
+
+abbrev pub unindex_deed : Schema → Vars → Graph → List (List ℕ) → LiveMember → Deed
+unindex_deed schema vars graph names at = unindex_by vars graph at (path_at schema at names)
 
 -- ---- `query`
 
@@ -106,9 +113,12 @@ last_compares schema (last ∷ []) key = option_map_or (λ def. compares_with de
 last_compares schema (member ∷ next ∷ members) key = last_compares schema (next ∷ members) key
 
 -- the answer is the same whichever indexes are declared
-abbrev pub query_deed : Schema → Vars → Graph → Path → Op → Key → LiveMember → Deed
-query_deed schema vars graph path op key at = record {
+abbrev pub query_by : Schema → Vars → Graph → Op → Key → LiveMember → Path → Deed
+query_by schema vars graph op key at path = record {
   tests = wrong_path path ∷ refused_where (not (last_compares schema (members_on path) key)) WrongKind
       ∷ key_too_long key ∷ [];
   gives = shown (replies.Names (listed graph (query_answer schema graph at.at at.owner (members_on path) op key))) vars graph;
 }
+
+abbrev pub query_deed : Schema → Vars → Graph → List (List ℕ) → Op → Key → LiveMember → Deed
+query_deed schema vars graph names op key at = query_by schema vars graph op key at (path_at schema at names)

@@ -6,7 +6,7 @@ use Rattle.ostore_schema_layout.specs.declared.schema.TypeNo.{TypeNo}
 use Rattle.ostore_schema_layout.specs.declared.schema.MemberNo.{MemberNo}
 use Rattle.ostore_schema_layout.specs.declared.schema.MemberKind.{MemberKind}
 use Rattle.ostore_schema_layout.specs.declared.schema.MemberKind.TheVariants as kinds
-use Rattle.ostore_schema_layout.specs.Numbers.{members_of, type_named}
+use Rattle.ostore_schema_layout.specs.Numbers.{members_of}
 use Rattle.ostore_graph_model.specs.declared.values.Name.{Name}
 use Rattle.ostore_graph_model.specs.declared.values.Scalar.{Scalar}
 use Rattle.ostore_graph_model.specs.declared.values.Scalar.TheVariants as scalars
@@ -19,7 +19,7 @@ use Rattle.ostore_graph_model.specs.Kinds.{no_type, room_of}
 use Rattle.ostore_graph_model.specs.Graph.{Object, Graph, last_serial, is_live}
 use Rattle.ostore_graph_model.specs.Links.{same_name, side, goes_with}
 use Rattle.ostore_graph_model.specs.Paths.{scalar_of}
-use Rattle.ostore_graph_model.specs.Deeds.{Vars, Deed, LiveMember, shown, done, bound, object_of, refused_where}
+use Rattle.ostore_graph_model.specs.Deeds.{Vars, Stepped, Deed, LiveMember, shown, done, bound, object_of, refused_where}
 
 -- ---- `new`
 
@@ -48,13 +48,17 @@ with_new graph segment object = record graph {
   serials = maps.insert graph.serials segment (last_serial graph segment + 1);
 }
 
-abbrev pub new_deed : Schema → Vars → Graph → List ℕ → List ℕ → ℕ → Deed
-new_deed schema vars graph to ty segment = record {
-  tests = refused_where (is_none (type_named schema ty)) WrongType
+-- the variable is bound to the object that the segment has named
+abbrev pub drawn : Vars → Graph → List ℕ → ℕ → Object → Stepped
+drawn vars graph to segment object = bound vars to (next_name graph segment) (with_new graph segment object)
+
+-- by the type that the name means, where it means one
+abbrev pub new_deed : Schema → Vars → Graph → List ℕ → ℕ → Option TypeNo → Deed
+new_deed schema vars graph to segment ty = record {
+  tests = refused_where (is_none ty) WrongType
       ∷ refused_where (not (nat_lt (last_serial graph segment) greatest_serial)) SerialsSpent
       ∷ [];
-  gives = bound vars to (next_name graph segment)
-      (with_new graph segment (new_object schema (unwrap_or (type_named schema ty) no_type)));
+  gives = drawn vars graph to segment (new_object schema (unwrap_or ty no_type));
 }
 
 -- ---- `find`

@@ -1,5 +1,5 @@
 use Rattle.std.proofs.Common.{◌≡◌, map, take}
-use Rattle.ostore_graph_model.specs.Step.{first_value}
+use Rattle.ostore_graph_model.specs.Deeds.Objects.{first_value}
 use Rattle.ostore_cli.proofs.plain.commands.initial_values.Given as goal
 
 abbrev pub invariant-loop-member : goal.invariant-loop-member

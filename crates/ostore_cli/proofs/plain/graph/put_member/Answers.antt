@@ -1,7 +1,7 @@
 use Rattle.std.proofs.Common.{ap, ◌∙◌, map, slice_set}
 use Rattle.std.proofs.lemmas.List.{map-set, get_or_read}
 use Rattle.ostore_schema_layout.specs.Numbers.{member_of_place}
-use Rattle.ostore_graph_model.specs.Step.{with_value}
+use Rattle.ostore_graph_model.specs.Deeds.Objects.{with_value}
 use Rattle.ostore_cli.specs.Plain.{object_of, entry_of}
 use Rattle.ostore_cli.proofs.plain.graph.put_member.Goals as goal
 

@@ -1,0 +1,9 @@
+-- Each transaction of specs/Examples.antt, command by command.
+pub mod DisplacedPartners
+pub mod DeletedItem
+pub mod SetItems
+pub mod DanglingReference
+pub mod ListsAndDictionaries
+pub mod ReadingOnly
+pub mod OrderOfRefusals
+pub mod PathQueries

@@ -1,0 +1,90 @@
+-- The commands one by one.
+use Rattle.std.proofs.Common.{◌≡◌, ◌∙◌, refl, ℕ, List, [], ◌∷◌, Option, Some, None, true, false}
+use Rattle.std.specs.Prelude.{codes, pos}
+use Rattle.std.specs.FinMap as maps
+use Rattle.ostore_schema_layout.specs.declared.schema.Schema.{Schema}
+use Rattle.ostore_schema_layout.specs.Numbers.{place_named}
+use Rattle.ostore_graph_model.specs.declared.values.Name.{Name}
+use Rattle.ostore_graph_model.specs.declared.values.Scalar.TheVariants as scalars
+use Rattle.ostore_graph_model.specs.declared.values.Value.TheVariants as values
+use Rattle.ostore_graph_model.specs.declared.values.Reply.TheVariants.{Done, Named, Value, Count, Names, Refused}
+use Rattle.ostore_graph_model.specs.declared.refusal.Refusal.TheVariants as refusals
+use Rattle.ostore_graph_model.specs.declared.commands.Command.TheVariants as line
+use Rattle.ostore_graph_model.specs.declared.commands.Operand.TheVariants as operands
+use Rattle.ostore_graph_model.specs.declared.commands.Key.TheVariants as keys
+use Rattle.ostore_graph_model.specs.declared.commands.Op.TheVariants as ops
+use Rattle.ostore_graph_model.specs.Sets as sets
+use Rattle.ostore_graph_model.specs.Graph.{Object, empty_graph}
+use Rattle.ostore_graph_model.specs.Links.{pair_at, joined}
+use Rattle.ostore_graph_model.specs.Deeds.{Stepped}
+use Rattle.ostore_graph_model.specs.Deeds.Objects.{with_new, without_object}
+use Rattle.ostore_graph_model.specs.Step.{step}
+use Rattle.ostore_graph_model.specs.Examples.{boxes, stores, bags, chained, by_code, n, SetItems}
+use Rattle.ostore_graph_model.proofs.Computing.{computes, start, tm, om, box, part}
+
+abbrev s1 : Stepped
+s1 = record start { reply = Named (n 1 1); vars = maps.insert start.vars (codes "b") (n 1 1); graph = with_new start.graph 1 box }
+
+step1 : step boxes true start.vars start.graph (line.New (codes "b") (codes "Box") 1) ≡ s1
+unfolding place_named
+step1 = simp computes refl
+
+abbrev s2 : Stepped
+s2 = record s1 { reply = Named (n 1 2); vars = maps.insert s1.vars (codes "p") (n 1 2); graph = with_new s1.graph 1 part }
+
+step2 : step boxes true s1.vars s1.graph (line.New (codes "p") (codes "Part") 1) ≡ s2
+unfolding place_named
+step2 = simp computes refl
+
+abbrev s3 : Stepped
+s3 = record s2 { reply = Done; graph = record s2.graph { pairs = joined boxes (tm 1 0) (n 1 1) (n 1 2) s2.graph.pairs } }
+
+step3 : step boxes true s2.vars s2.graph (line.Insert (codes "b") (codes "parts") (codes "p")) ≡ s3
+unfolding place_named
+step3 = simp computes refl
+
+abbrev s4 : Stepped
+s4 = record s3 { reply = Count 1 }
+
+step4 : step boxes true s3.vars s3.graph (line.Size (codes "b") (codes "parts")) ≡ s4
+unfolding place_named
+step4 = simp computes refl
+
+abbrev s5 : Stepped
+s5 = record s4 { reply = Refused refusals.AlreadyMember }
+
+step5 : step boxes true s4.vars s4.graph (line.Insert (codes "b") (codes "parts") (codes "p")) ≡ s5
+unfolding place_named
+step5 = simp computes refl
+
+abbrev s6 : Stepped
+s6 = record s5 { reply = Done; graph = record s5.graph { pairs = sets.remove s5.graph.pairs (pair_at boxes (tm 1 0) (n 1 1) (n 1 2)) } }
+
+step6 : step boxes true s5.vars s5.graph (line.Remove (codes "b") (codes "parts") (codes "p")) ≡ s6
+unfolding place_named
+step6 = simp computes refl
+
+abbrev s7 : Stepped
+s7 = record s6 { reply = Refused refusals.NotMember }
+
+step7 : step boxes true s6.vars s6.graph (line.Remove (codes "b") (codes "parts") (codes "p")) ≡ s7
+unfolding place_named
+step7 = simp computes refl
+
+abbrev s8 : Stepped
+s8 = record s7 { reply = Names [] }
+
+step8 : step boxes true s7.vars s7.graph (line.Members (codes "b") (codes "parts")) ≡ s8
+unfolding place_named
+step8 = simp computes refl
+
+abbrev s9 : Stepped
+s9 = record s8 { reply = Count 0 }
+
+step9 : step boxes true s8.vars s8.graph (line.Size (codes "b") (codes "parts")) ≡ s9
+unfolding place_named
+step9 = simp computes refl
+
+pub set_items : SetItems
+set_items =
+    (s1.vars, s1.graph, step1, (s2.vars, s2.graph, step2, (s3.vars, s3.graph, step3, (s4.vars, s4.graph, step4, (s5.vars, s5.graph, step5, (s6.vars, s6.graph, step6, (s7.vars, s7.graph, step7, (s8.vars, s8.graph, step8, (s9.vars, s9.graph, step9, refl)))))))))

@@ -1,0 +1,44 @@
+//! Commands written out with their replies, each list the contract of a function that does nothing.
+
+ghost use Rattle.ostore_graph_model.specs.Examples.{DisplacedPartners, DeletedItem, DanglingReference, SetItems};
+ghost use Rattle.ostore_graph_model.specs.Examples.{ListsAndDictionaries, ReadingOnly, OrderOfRefusals, PathQueries};
+
+/// A reference that is set parts both objects from whom they were joined with.
+pub fn displaced_partners()
+    ensures { DisplacedPartners }
+{}
+
+/// A deleted object is in no set with an inverse, and a one-sided reference to it shows that it was deleted.
+pub fn deleted_item()
+    ensures { DeletedItem }
+{}
+
+/// An item is in a set once, and is taken out once.
+pub fn set_items()
+    ensures { SetItems }
+{}
+
+/// A one-sided reference to a deleted object stays, and is not followed.
+pub fn dangling_reference()
+    ensures { DanglingReference }
+{}
+
+/// An index beyond a list and a key that is not bound are refused.
+pub fn lists_and_dictionaries()
+    ensures { ListsAndDictionaries }
+{}
+
+/// In a read a command that writes is refused before anything else, and binds no variable.
+pub fn reading_only()
+    ensures { ReadingOnly }
+{}
+
+/// Of the tests of a line the first that fails is its refusal.
+pub fn order_of_refusals()
+    ensures { OrderOfRefusals }
+{}
+
+/// A query follows its path through references that change, with an index or without.
+pub fn path_queries()
+    ensures { PathQueries }
+{}
