@@ -1,9 +1,3 @@
-pub mod OrderLaws
-pub mod KeyLaws
-pub mod StepLaws
-pub mod GrowthLaws
-pub mod Computing
-pub mod Rows
 pub mod AddLaw
 pub mod AddressLaws
 pub mod AllocationLaws
@@ -18,11 +12,13 @@ pub mod GraphLaws
 pub mod HeapLaws
 pub mod IndexLaws
 pub mod ItemLaws
+pub mod KeyLaws
 pub mod ListLaws
 pub mod MemberEdits
 pub mod MemberLaws
 pub mod NewObjectLaw
 pub mod ObjectLaws
+pub mod OrderLaws
 pub mod PageLaws
 pub mod RecordLaws
 pub mod ReferenceLaw
@@ -49,3 +45,7 @@ pub mod SetFacts
 pub mod JoinedFacts
 pub mod SizeLaw
 pub mod PartnerLaws
+pub mod StepLaws
+pub mod GrowthLaws
+pub mod Computing
+pub mod Rows

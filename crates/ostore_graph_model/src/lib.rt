@@ -16,10 +16,6 @@ mod worked;
 pub use commands::{Command, Commands, Idents, Key, Op, Operand, Script, Txn, TxnLists, Txns};
 pub use history::{Committed, Entry};
 pub use laws::names_are_ordered;
-pub use laws_of_steps::{
-    answers_are_replies, drawn_name_stays_drawn, new_name_is_new, read_transaction_changes_nothing,
-    reading_changes_nothing, refusal_changes_nothing, update_grows_no_more_than_script,
-};
 pub use laws_of_cells::{
     cells_are_sized, held_image_tells_cells, one_cell_is_added, one_cell_is_dead,
     one_cell_is_edited, pointers_lead_to_pages,
@@ -33,6 +29,10 @@ pub use laws_of_pages::{
     int_is_written, link_goes_by_first_side, no_index_is_wrong, object_is_made, page_is_taken,
     reference_is_cleared, reference_is_written, root_is_bound, root_is_unbound, same_is_read,
     text_is_written,
+};
+pub use laws_of_steps::{
+    answers_are_replies, drawn_name_stays_drawn, new_name_is_new, read_transaction_changes_nothing,
+    reading_changes_nothing, refusal_changes_nothing, update_grows_no_more_than_script,
 };
 pub use refusal::Refusal;
 pub use values::{Listed, Name, Names, Replies, Reply, Scalar, Value};

@@ -19,7 +19,7 @@ use Rattle.ostore_graph_model.specs.Kinds.{no_type, room_of}
 use Rattle.ostore_graph_model.specs.Graph.{Object, Graph, last_serial, is_live}
 use Rattle.ostore_graph_model.specs.Links.{same_name, side, goes_with}
 use Rattle.ostore_graph_model.specs.Paths.{scalar_of}
-use Rattle.ostore_graph_model.specs.Deeds.{Vars, Deed, LiveMember, shown, done, bound, object_of, refused_where}
+use Rattle.ostore_graph_model.specs.Deeds.{Vars, Stepped, Deed, LiveMember, shown, done, bound, object_of, refused_where}
 
 -- ---- `new`
 
