@@ -10,7 +10,7 @@ use Rattle.ostore_page_tags.specs.Header.{header_of}
 use Rattle.ostore_page_tags.specs.Cells.{between}
 use Rattle.ostore_page_tags.specs.Rules.{are_zero, IsPage}
 use Rattle.ostore_page_tags.specs.PageLists.{bytes_at, header_at, first_of, schema_bytes, schema_length}
-use Rattle.ostore_page_tags.specs.PageChains.{IsOpen, AreChained}
+use Rattle.ostore_page_tags.specs.PageChains.{IsOpen, IsFreeList, IsChain, AreChained}
 
 -- the bytes from one place up to another are zero
 abbrev pub AreZero : ℕ → ℕ → List ℕ → Type 0
@@ -53,6 +53,15 @@ pub record IsRoots (bytes : List ℕ) : Type 0 where
 -- the pages of the schema's text, one after the other: zeros behind the text
 abbrev pub EndsInZeros : List ℕ → Type 0
 EndsInZeros bytes = IsTrue (are_zero (drop (SCHEMA_LENGTH_BYTES + schema_length bytes) bytes))
+
+-- these are the free pages of the list, in order
+abbrev pub HasFree : List PageImage → List ℕ → Type 0
+HasFree pages free = IsFreeList (length pages) (header_at pages) free
+
+-- these are the pages of a segment, in order
+abbrev pub HasChain : List PageImage → ℕ → List ℕ → Type 0
+HasChain pages segment chain =
+    IsChain (length pages) (header_at pages) (first_of pages segment) segment chain
 
 -- there is a free list, and each segment has a chain
 abbrev pub HasChains : List PageImage → Type 0

@@ -10,6 +10,7 @@ pub mod Changes
 pub mod PageLists
 pub mod PageChains
 pub mod Allocated
+pub mod PagePointers
 pub mod FreshPages
 -- What only ties private code.
 pub mod inside

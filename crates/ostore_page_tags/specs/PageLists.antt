@@ -1,7 +1,8 @@
 -- Lists of page images, by the numbers of the pages.
-use Rattle.std.specs.Prelude.{ℕ, ◌+◌, ◌-◌, ◌*◌, List, [], take, drop, slice_index_or}
+use Rattle.std.specs.Prelude.{ℕ, ◌+◌, ◌-◌, ◌*◌, List, [], take, drop, slice_index_or, slice_set}
 use Rattle.std.specs.List.{flat_map, range_with_len}
 use Rattle.ostore_base.specs.declared.page.PageImage.{PageImage}
+use Rattle.ostore_base.specs.Disk.{replaced}
 use Rattle.ostore_page_tags.specs.declared.layout.TheConstants.{FRONT_PAGE, FIRST_PAGES_AT, FIRST_PAGE_BYTES, FIRST_SCHEMA_PAGE, SCHEMA_PAGES, SCHEMA_LENGTH_BYTES}
 use Rattle.ostore_page_tags.specs.declared.page_header.PageHeader.{PageHeader}
 use Rattle.ostore_page_tags.specs.Numbers.{number_at}
@@ -31,3 +32,8 @@ schema_length bytes = number_at SCHEMA_LENGTH_BYTES 0 bytes
 abbrev pub schema_text : List PageImage → List ℕ
 schema_text pages =
     take (schema_length (schema_bytes pages)) (drop SCHEMA_LENGTH_BYTES (schema_bytes pages))
+
+-- the list with bytes of a page replaced, from a place on
+abbrev pub with_bytes : List PageImage → ℕ → ℕ → List ℕ → List PageImage
+with_bytes pages page at bytes =
+    slice_set pages page (record { bytes = replaced at bytes (bytes_at pages page) })

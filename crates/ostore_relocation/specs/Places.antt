@@ -1,68 +1,19 @@
--- Where the pointers of a page stand. A pointer has 4 bytes. Pages of objects have pointers in their live
--- cells, and the page of roots has one in each row of a root. No other page has any.
-use Rattle.std.specs.Prelude.{◌≡◌, ◌⊎◌, ℕ, ◌+◌, ◌*◌, ◌<◌, ◌≤◌, Bool, ◌&&◌, ◌==◌, nat_le, if◌then◌else◌, List, [], ◌∷◌, map}
-use Rattle.std.specs.List.{flat_map, range_with_len}
-use Rattle.ostore_base.specs.Limits.{most_roots}
+-- Where the pointers of a page stand, by the schema of its objects.
+use Rattle.std.specs.Prelude.{ℕ, List}
 use Rattle.ostore_schema_layout.specs.declared.schema.Schema.{Schema}
 use Rattle.ostore_schema_layout.specs.Cells.{pointers_of}
 use Rattle.ostore_page_tags.specs.declared.tag_rows.Row.{Row}
-use Rattle.ostore_page_tags.specs.Numbers.{number_at}
-use Rattle.ostore_page_tags.specs.Header.{header_of}
-use Rattle.ostore_page_tags.specs.Rows.{rows_of}
-use Rattle.ostore_page_tags.specs.declared.layout.TheConstants.{FIRST_OPEN_PAGE, NAME_LENGTH_IN_ROOT, OBJECTS_KIND, POINTER_IN_ROOT, ROOTS_AT, ROOTS_PAGE, ROOT_BYTES}
-
--- ---- pages of objects
+pub use Rattle.ostore_page_tags.specs.PagePointers.{holds_objects, root_place, name_length, root_pointer, LieBetween, IsOutside, IsBeside, IsOneOf}
+unfoldable pub use Rattle.ostore_page_tags.specs.PagePointers.{root_pointers}
+use Rattle.ostore_page_tags.specs.PagePointers as places
 
 -- the pointers of a row's cell; a dead row has none
 abbrev pub row_pointers : Schema → Row → List ℕ
-row_pointers schema row =
-    if row.live then map (λ at. row.offset + at) (pointers_of schema row.code) else []
+row_pointers schema row = places.row_pointers (pointers_of schema) row
 
 abbrev pub cell_pointers : Schema → List ℕ → List ℕ
-cell_pointers schema bytes = flat_map (row_pointers schema) (rows_of bytes)
-
-abbrev pub holds_objects : ℕ → List ℕ → Bool
-holds_objects page bytes = nat_le FIRST_OPEN_PAGE page && (header_of bytes).kind == OBJECTS_KIND
-
--- ---- the page of roots
-
--- where row i stands; there are as many rows as a database has roots at most
-abbrev pub root_place : ℕ → ℕ
-root_place i = ROOTS_AT + ROOT_BYTES * i
-
-abbrev pub name_length : List ℕ → ℕ → ℕ
-name_length bytes i = number_at 1 (ROOTS_AT + NAME_LENGTH_IN_ROOT + ROOT_BYTES * i) bytes
-
--- the pointer of row i; a row whose name has no length is free, and has none
-abbrev pub root_pointer : List ℕ → ℕ → List ℕ
-root_pointer bytes i = if name_length bytes i == 0 then [] else (root_place i + POINTER_IN_ROOT) ∷ []
-
-unfoldable pub root_pointers : List ℕ → List ℕ
-root_pointers bytes = flat_map (root_pointer bytes) (range_with_len 0 most_roots)
-
--- ---- any page
+cell_pointers schema bytes = places.cell_pointers (pointers_of schema) bytes
 
 -- the places of a page's pointers, by the page's number
 abbrev pub page_pointers : Schema → ℕ → List ℕ → List ℕ
-page_pointers schema page bytes =
-    if page == ROOTS_PAGE then root_pointers bytes
-    else if holds_objects page bytes then cell_pointers schema bytes
-    else []
-
--- pointers at some places lie one behind the other, from one byte up to another
-abbrev pub LieBetween : ℕ → List ℕ → ℕ → Type 0
-LieBetween low [] high = low ≤ high
-LieBetween low (at ∷ places) high = (low ≤ at) × LieBetween (at + 4) places high
-
--- a byte isn't the pointer's at a place
-abbrev pub IsOutside : ℕ → ℕ → Type 0
-IsOutside k at = (k < at) ⊎ (at + 4 ≤ k)
-
--- the n bytes from a place on are none of a pointer's
-abbrev pub IsBeside : ℕ → ℕ → ℕ → Type 0
-IsBeside start n at = (at + 4 ≤ start) ⊎ (start + n ≤ at)
-
--- a place is one of some places
-abbrev pub IsOneOf : ℕ → List ℕ → Type 0
-IsOneOf at [] = ⊥
-IsOneOf at (place ∷ places) = (place ≡ at) ⊎ IsOneOf at places
+page_pointers schema page bytes = places.page_pointers (pointers_of schema) page bytes

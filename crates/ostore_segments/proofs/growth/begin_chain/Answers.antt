@@ -1,0 +1,27 @@
+use Rattle.std.proofs.lemmas.Result.{on_ok_weaker}
+use Rattle.ostore_segments.proofs.ListSteps.{Stands-weaker, Stands-after, Becomes-after, Becomes-edit, Becomes-stands}
+use Rattle.ostore_segments.proofs.GrowLaws.{begin_edit, begin_edit_last, begin_grows}
+use Rattle.ostore_segments.proofs.growth.begin_chain.Goals as goal
+
+pub take_free-requires-clause-stands : goal.take_free-requires-clause-stands
+take_free-requires-clause-stands g c = Stands-weaker (λ list known. known.begins) c.requires.stands
+
+pub put_number-requires-clause-puts : goal.put_number-requires-clause-puts
+put_number-requires-clause-puts g c =
+    Becomes-stands c.requires.stands (λ old new known taken. begin_edit c.args.segment c.args.page.0 c.first_place.result old new
+    (record { begins = known; owned = c.requires.segment; place_is = c.first_place.ensures }) taken _)
+    c.in_ok-take_free.ensures.lists
+
+pub put_number-requires-2-clause-puts : goal.put_number-requires-2-clause-puts
+put_number-requires-2-clause-puts g c =
+    Stands-after c.requires.stands (λ old middle known taken. begin_edit_last c.args.segment c.args.page.0 c.first_place.result old middle
+    (record { begins = known; owned = c.requires.segment; place_is = c.first_place.ensures }) taken _)
+    c.in_ok-take_free.ensures.lists c.in_ok-put_number.ensures.lists
+
+pub returns-clause-lists : goal.returns-clause-lists
+returns-clause-lists g c =
+    on_ok_weaker c.put_number-2.result
+    (λ last. Becomes-after c.requires.stands (λ old middle known taken. begin_grows c.args.segment c.args.page.0 c.first_place.result old middle
+    (record { begins = known; owned = c.requires.segment; place_is = c.first_place.ensures }) taken)
+    c.in_ok-take_free.ensures.lists (Becomes-edit c.in_ok-put_number.ensures.lists last))
+    c.put_number-2.ensures.lists

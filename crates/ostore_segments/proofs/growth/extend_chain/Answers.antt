@@ -1,0 +1,30 @@
+use Rattle.std.proofs.lemmas.Result.{on_ok_weaker}
+use Rattle.ostore_segments.proofs.ListSteps.{Stands-seen, Stands-weaker, Stands-after, Becomes-after, Becomes-edit, Becomes-stands, Becomes-seen}
+use Rattle.ostore_segments.proofs.GrowLaws.{can_extend, beside_headed, extend_edit, extend_edit_last, extend_grows}
+use Rattle.ostore_segments.proofs.growth.extend_chain.Goals as goal
+
+pub header_at-requires : goal.header_at-requires
+header_at-requires g c = Stands-weaker (λ list known. beside_headed list c.args.segment c.args.page.0 c.args.first.0 c.requires.segment c.requires.some known) c.requires.stands
+
+pub take_free-requires-clause-stands : goal.take_free-requires-clause-stands
+take_free-requires-clause-stands g c = Stands-weaker (λ list known. known.0.begins) (Stands-seen c.requires.stands c.in_ok-header_at.ensures.seen)
+
+pub put_number-requires-clause-puts : goal.put_number-requires-clause-puts
+put_number-requires-clause-puts g c =
+    Becomes-stands (Stands-seen c.requires.stands c.in_ok-header_at.ensures.seen)
+    (λ old new known taken. extend_edit c.args.segment c.args.page.0 c.args.first.0 c.in_ok-header_at.field-0.last_page old new (can_extend _ _ _ old c.in_ok-header_at.field-0 c.requires.segment c.requires.some known.0 known.1) taken _)
+    c.in_ok-take_free.ensures.lists
+
+pub put_number-requires-2-clause-puts : goal.put_number-requires-2-clause-puts
+put_number-requires-2-clause-puts g c =
+    Stands-after (Stands-seen c.requires.stands c.in_ok-header_at.ensures.seen)
+    (λ old middle known taken. extend_edit_last c.args.segment c.args.page.0 c.args.first.0 c.in_ok-header_at.field-0.last_page old middle (can_extend _ _ _ old c.in_ok-header_at.field-0 c.requires.segment c.requires.some known.0 known.1) taken _)
+    c.in_ok-take_free.ensures.lists c.in_ok-put_number.ensures.lists
+
+pub returns-clause-lists : goal.returns-clause-lists
+returns-clause-lists g c =
+    on_ok_weaker c.put_number-2.result
+    (λ last. Becomes-seen c.in_ok-header_at.ensures.seen (Becomes-after (Stands-seen c.requires.stands c.in_ok-header_at.ensures.seen)
+    (λ old middle known taken. extend_grows c.args.segment c.args.page.0 c.args.first.0 c.in_ok-header_at.field-0.last_page old middle (can_extend _ _ _ old c.in_ok-header_at.field-0 c.requires.segment c.requires.some known.0 known.1) taken)
+    c.in_ok-take_free.ensures.lists (Becomes-edit c.in_ok-put_number.ensures.lists last)))
+    c.put_number-2.ensures.lists

@@ -1,0 +1,29 @@
+use Rattle.std.proofs.Common.{ap, Ok, Err, arith, ◌∙◌}
+use Rattle.ostore_base.specs.declared.numbers.PageNo.{PageNo}
+use Rattle.ostore_segments.specs.Holdings.{PagesTold}
+use Rattle.ostore_segments.proofs.ListSteps.{Stands-both, Becomes-stands, Becomes-then, Becomes-weaker}
+use Rattle.ostore_segments.proofs.MakeLaws.{open_placed, placed_is, placed_left, makes}
+use Rattle.ostore_segments.proofs.objects.make.Goals as goal
+
+pub make_on-requires-clause-size : goal.make_on-requires-clause-size
+make_on-requires-clause-size g c = ap (λ (told : PagesTold). told.sizes c.args.code) c.in_ok-page.ensures.told ∙ c.requires.size
+
+pub make_on-requires-clause-placed : goal.make_on-requires-clause-placed
+make_on-requires-clause-placed g c =
+    let most = c.requires.asked.most in
+    Becomes-stands c.requires.allocated (λ old new fine placed. placed_is old new c.args.segment _ c.in-Ok.page.0 fine (omega arith) placed)
+    (open_placed c.args.segment _ c.in_ok-page.field-0 (Ok c.in-Ok.page) c.in-Ok.is c.in_ok-page.ensures.lists)
+
+pub make_on-requires-clause-left : goal.make_on-requires-clause-left
+make_on-requires-clause-left g c =
+    let most = c.requires.asked.most in
+    Becomes-stands (Stands-both c.requires.allocated c.requires.left) (λ old new known placed. placed_left old new c.args.segment _ c.in-Ok.page.0 c.requires.segment (omega arith) known.0 known.1 placed)
+    (open_placed c.args.segment _ c.in_ok-page.field-0 (Ok c.in-Ok.page) c.in-Ok.is c.in_ok-page.ensures.lists)
+
+pub returns-in_ok-make_on-in-Ok-clause-lists : goal.returns-in_ok-make_on-in-Ok-clause-lists
+returns-in_ok-make_on-in-Ok-clause-lists g c =
+    Becomes-weaker (λ old new there step. makes old new c.args.segment c.in-Ok.page.0 _ c.args.size c.args.code c.in_ok-make_on-in-Ok.field-0.serial c.in_ok-make_on-in-Ok.field-0.offset (ap (λ (page : PageNo). page.0) c.in_ok-make_on-in-Ok.ensures.page) step)
+    (Becomes-then (open_placed c.args.segment _ c.in_ok-page.field-0 (Ok c.in-Ok.page) c.in-Ok.is c.in_ok-page.ensures.lists) c.in_ok-make_on-in-Ok.ensures.lists)
+
+pub returns-in-Err-clause-lists : goal.returns-in-Err-clause-lists
+returns-in-Err-clause-lists g c = open_placed c.args.segment _ c.in_ok-page.field-0 (Err c.in-Err.no) c.in-Err.is c.in_ok-page.ensures.lists

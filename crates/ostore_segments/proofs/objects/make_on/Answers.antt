@@ -1,0 +1,26 @@
+use Rattle.std.proofs.Common.{◌∙◌, ap}
+use Rattle.ostore_segments.specs.Holdings.{PagesTold}
+use Rattle.ostore_segments.proofs.ListSteps.{Stands-both, Stands-now, Stands-weaker, Becomes-stands, Becomes-then, Becomes-weaker}
+use Rattle.ostore_segments.proofs.MakeLaws.{drawn_room, draws_and_adds, object_asked, some_serial}
+use Rattle.ostore_segments.proofs.objects.make_on.Goals as goal
+
+pub draw_serial-requires-clause-allocated : goal.draw_serial-requires-clause-allocated
+draw_serial-requires-clause-allocated g c = Stands-weaker (λ list placed. placed.allocated) c.requires.placed
+
+pub add-requires-clause-asked : goal.add-requires-clause-asked
+add-requires-clause-asked g c =
+    let drawn = c.in_ok-serial.ensures.lists in
+    let step = drawn.from drawn.some.0 drawn.some.1 drawn.some.2 in
+    object_asked c.args.size c.args.code c.in_ok-serial.serial c.requires.asked (some_serial step.0 drawn.some.1 c.args.segment c.in_ok-serial.serial step.2)
+
+pub add-requires-clause-size : goal.add-requires-clause-size
+add-requires-clause-size g c = ap (λ (told : PagesTold). told.sizes c.args.code) c.in_ok-serial.ensures.told ∙ c.requires.size
+
+pub add-requires-clause-room : goal.add-requires-clause-room
+add-requires-clause-room g c =
+    Becomes-stands c.requires.placed (λ old new placed drawn. drawn_room old new c.args.segment _ c.args.page.0 c.in_ok-serial.serial c.requires.segment placed drawn) c.in_ok-serial.ensures.lists
+
+pub returns-clause-lists : goal.returns-clause-lists
+returns-clause-lists g c =
+    Becomes-weaker (λ old new there step. draws_and_adds old new c.args.segment c.args.page.0 c.args.size c.args.code c.in_ok-serial.serial c.in_ok-offset.offset step)
+    (Becomes-then c.in_ok-serial.ensures.lists c.in_ok-offset.ensures.lists)

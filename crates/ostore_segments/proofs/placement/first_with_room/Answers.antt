@@ -1,0 +1,40 @@
+use Rattle.std.proofs.Common.{◌∙◌, subst, arith}
+use Rattle.ostore_segments.specs.inside.Walks.{HasWalked}
+use Rattle.ostore_segments.proofs.ListSteps.{Stands-seen, Stands-weaker, Becomes-look, Becomes-shows}
+use Rattle.ostore_segments.proofs.RoomLaws.{has_room, lacks_room, walk_starts, walk_headed, walk_finds, walk_goes_on, walk_ends, walk_long}
+use Rattle.ostore_segments.proofs.placement.first_with_room.Goals as goal
+
+pub loop-walked-init : goal.loop-walked-init
+loop-walked-init g c = record {
+  seen = Becomes-shows c.requires.allocated (λ list fine seen. walk_starts list c.args.segment c.args.need c.in_ok-page.page fine c.requires.segment seen) c.in_ok-page.ensures.seen;
+  told = c.in_ok-page.ensures.told;
+}
+
+pub returns-then-page-eq0-clause-lists : goal.returns-then-page-eq0-clause-lists
+returns-then-page-eq0-clause-lists g c =
+    Becomes-shows c.requires.allocated
+    (λ list fine seen. walk_ends list c.args.segment c.args.need _ (subst (HasWalked list c.args.segment c.args.need c.loop-walked._walked) c.if-page-eq0.true seen))
+    c.loop-walked.invariant.seen
+
+pub header_at-requires : goal.header_at-requires
+header_at-requires g c =
+    Stands-weaker (λ list known. walk_headed list c.args.segment c.args.need _ _ c.if-page-eq0.false known.0 known.1)
+    (Stands-seen c.requires.allocated c.loop-walked.invariant.seen)
+
+pub returns-then-has_room-clause-lists : goal.returns-then-has_room-clause-lists
+returns-then-has_room-clause-lists g c =
+    Becomes-shows c.requires.allocated
+    (λ list fine seen. walk_finds list c.args.segment c.args.need _ _ c.if-page-eq0.false seen.0 (has_room list c.args.need _ c.in_ok-header.header _ seen.1 c.has_room.ensures c.if-has_room.true))
+    (Becomes-look c.loop-walked.invariant.seen c.in_ok-header.ensures.seen)
+
+pub loop-walked-preserved : goal.loop-walked-preserved
+loop-walked-preserved g c = record {
+  seen = Becomes-shows c.requires.allocated
+      (λ list fine seen. walk_goes_on list c.args.segment c.args.need _ _ c.if-page-eq0.false c.in_ok-header.header seen.0 seen.1 (lacks_room list c.args.need _ c.in_ok-header.header _ seen.1 c.has_room.ensures c.if-has_room.false))
+      (Becomes-look c.loop-walked.invariant.seen c.in_ok-header.ensures.seen);
+  told = c.in_ok-header.ensures.told ∙ c.loop-walked.invariant.told;
+}
+
+pub returns-clause-lists : goal.returns-clause-lists
+returns-clause-lists g c =
+    Becomes-shows c.requires.allocated (λ list fine seen. walk_long list c.args.segment c.args.need _ _ fine (omega arith) seen) c.loop-walked.invariant.seen

@@ -1,0 +1,10 @@
+use Rattle.std.proofs.Common.{◌≡◌}
+use Rattle.ostore_segments.specs.Holdings.{Becomes, Sees}
+use Rattle.ostore_segments.specs.inside.Walks.{HasWalked}
+use Rattle.ostore_segments.proofs.placement.first_with_room.Given as goal
+
+abbrev pub invariant-loop-walked : goal.invariant-loop-walked
+invariant-loop-walked g l = record {
+  seen : Becomes (g.P.Pages.held l.fn.pages) (g.P.Pages.held l.pages) (Sees (λ list. HasWalked list l.segment l.need l._walked l.page));
+  told : g.P.Pages.told l.pages ≡ g.P.Pages.told l.fn.pages;
+}

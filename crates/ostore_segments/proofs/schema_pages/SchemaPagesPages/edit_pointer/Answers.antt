@@ -1,0 +1,14 @@
+use Rattle.std.proofs.Common.{◌∙◌, ap, arith, length}
+use Rattle.byteorder.specs.Numbers.{length-bytes_low_first}
+use Rattle.ostore_segments.proofs.ListSteps.{alone_becomes, alone_stands}
+use Rattle.ostore_segments.proofs.PutLaws.{edited_length}
+use Rattle.ostore_segments.proofs.schema_pages.SchemaPagesPages.edit_pointer.Goals as goal
+
+pub put_bytes-requires-clause-there : goal.put_bytes-requires-clause-there
+put_bytes-requires-clause-there c = (alone_stands c.args.self.now.pages c.requires.there).there
+
+pub put_bytes-requires-clause-within : goal.put_bytes-requires-clause-within
+put_bytes-requires-clause-within c =
+    let within = (alone_stands c.args.self.now.pages c.requires.there).within in
+    let long = ap (λ bytes. length bytes) c.to_le_bytes.ensures ∙ length-bytes_low_first 0 4 c.args.pointer in
+    omega arith

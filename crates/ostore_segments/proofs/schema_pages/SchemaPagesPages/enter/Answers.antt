@@ -1,0 +1,9 @@
+use Rattle.std.proofs.Common.{refl}
+use Rattle.ostore_segments.proofs.ListSteps.{alone_becomes, alone_stands}
+use Rattle.ostore_segments.proofs.schema_pages.SchemaPagesPages.enter.Goals as goal
+
+pub returns-clause-lists : goal.returns-clause-lists
+returns-clause-lists c = alone_becomes c.args.self.now.pages c.args.self.now.pages refl refl
+
+pub returns-clause-view : goal.returns-clause-view
+returns-clause-view c = alone_stands c.args.self.now.pages c.requires

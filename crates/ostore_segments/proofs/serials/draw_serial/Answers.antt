@@ -1,0 +1,27 @@
+use Rattle.std.proofs.Common.{arith}
+use Rattle.ostore_segments.proofs.ListSteps.{Stands-both, Stands-seen, Stands-weaker, Stands-now, Becomes-look, Becomes-changed}
+use Rattle.ostore_segments.proofs.AllocatedLaws.{first_headed}
+use Rattle.ostore_segments.proofs.SerialLaws.{can_draw, draw_fits, draws_next, draw_edit}
+use Rattle.ostore_segments.proofs.serials.draw_serial.Goals as goal
+
+pub header_at-requires : goal.header_at-requires
+header_at-requires g c =
+    Stands-weaker (λ list known. first_headed list c.args.segment _ known.0.0 c.requires.segment known.0.1.some known.1)
+    (Stands-seen (Stands-both c.requires.allocated c.requires.left) c.in_ok-first_of.ensures.seen)
+
+pub overflow_add-serial : goal.overflow_add-serial
+overflow_add-serial g c =
+    let fits = Stands-now (λ list known. draw_fits c.args.segment c.in_ok-first_of.field-0 c.in_ok-serial.field-0 list (can_draw _ _ _ list c.requires.segment known.0.0 known.0.1 known.1.0 known.1.1))
+    (Stands-seen (Stands-both c.requires.allocated c.requires.left) (Becomes-look c.in_ok-first_of.ensures.seen c.in_ok-serial.ensures.seen)) in
+    omega arith
+
+pub put_number-requires-clause-puts : goal.put_number-requires-clause-puts
+put_number-requires-clause-puts g c =
+    Stands-weaker (λ list known. draw_edit _ list c.args.segment c.in_ok-first_of.field-0 c.in_ok-serial.field-0 (can_draw _ _ _ list c.requires.segment known.0.0 known.0.1 known.1.0 known.1.1))
+    (Stands-seen (Stands-both c.requires.allocated c.requires.left) (Becomes-look c.in_ok-first_of.ensures.seen c.in_ok-serial.ensures.seen))
+
+pub returns-clause-lists : goal.returns-clause-lists
+returns-clause-lists g c =
+    Becomes-changed (Stands-both c.requires.allocated c.requires.left) (Becomes-look c.in_ok-first_of.ensures.seen c.in_ok-serial.ensures.seen)
+    (λ old new known seen written. draws_next old new c.args.segment c.in_ok-first_of.field-0 c.in_ok-serial.field-0 (can_draw _ _ _ old c.requires.segment known.0 known.1 seen.0 seen.1) written)
+    c.in_ok-put_number.ensures.lists

@@ -1,0 +1,54 @@
+//! The pages of a segment.
+
+ghost use Rattle.std.specs.Prelude.{◌≡◌, IfOk, map};
+ghost use Rattle.ostore_page_tags.specs.PageChains.{IsSegment};
+ghost use Rattle.ostore_page_tags.specs.Allocated.{IsAllocated, HasChain};
+ghost use Rattle.ostore_segments.specs.Holdings.{Stands, Becomes, Sees};
+
+use crate::fields::{first_of, header_at};
+use crate::pages::Pages;
+use ostore_base::{MAX_PAGES, OutOfMemory, PageNo, PageNos};
+use std::alloc::Global;
+
+/// Why the pages of a segment can't be listed.
+#[derive(Clone, Copy, Debug)]
+pub enum PagesOfFault<F> {
+    /// A page couldn't be had.
+    Fault(F),
+    /// Memory was wanted and refused.
+    OutOfMemory(OutOfMemory),
+}
+
+/// The pages of a segment, in the order of its chain.
+pub fn pages_of<P: Pages>(
+    alloc: Global,
+    pages: &mut P,
+    segment: u8,
+) -> Result<PageNos, PagesOfFault<P::Fault>>
+    requires segment { IsSegment segment }
+    requires allocated { Stands (P.held pages.old) IsAllocated }
+    ensures lists { IfOk result (λ found. Becomes (P.held pages.old) (P.held pages.new)
+        (Sees (λ list. HasChain list segment (map (λ page. page.0) found)))) }
+    ensures told { P.told pages.new ≡ P.told pages.old }
+{
+    let mut found = PageNos::new(alloc);
+    let mut page = match first_of(pages, segment) {
+        Ok(first) => first,
+        Err(fault) => return Err(PagesOfFault::Fault(fault)),
+    };
+    for _walked in 0..MAX_PAGES {
+        if page == 0 {
+            return Ok(found);
+        }
+        let header = match header_at(pages, PageNo(page)) {
+            Ok(header) => header,
+            Err(fault) => return Err(PagesOfFault::Fault(fault)),
+        };
+        match found.push(PageNo(page)) {
+            Ok(()) => {}
+            Err(fault) => return Err(PagesOfFault::OutOfMemory(fault)),
+        }
+        page = header.next;
+    }
+    Ok(found)
+}

@@ -1,0 +1,74 @@
+//! The pages that segments stand on.
+
+ghost use Rattle.std.specs.Prelude.{◌≡◌, ◌<◌, true, OnOk, IsSome, length};
+ghost use Rattle.ostore_page_tags.specs.Limits.{most_roots};
+ghost use Rattle.ostore_page_tags.specs.PageLists.{with_bytes};
+ghost use Rattle.ostore_segments.specs.Holdings.{PagesTold, PagesHeld, Stands, Becomes};
+ghost use Rattle.ostore_segments.specs.Seen.{Shows};
+ghost use Rattle.ostore_segments.specs.Edits.{CanPut, HasPointer, IsRootAsked, stored_or_null, with_pointer_at, with_root};
+
+use ostore_base::{PageImage, PageNo};
+use ostore_page_tags::layout::ROOTS_PAGE;
+
+/// The pages of a database, as they are seen and changed by one attempt. The holder knows only the pages that
+/// it has looked at, so it may stand for several lists of pages. A call may rule out some of them, never all,
+/// and what it answers holds of each that is left. All lists have one length.
+///
+/// Pointers that the holder shows and takes may be resident: `home` says for which stored one each stands.
+/// After a fault nothing is told of the lists.
+pub trait Pages {
+    /// Why a page can't be had.
+    type Fault;
+
+    /// The sizes and pointers of cells by their codes, whether pages may be changed, and the borrows behind
+    /// the holder.
+    ghost told: { Self → PagesTold };
+
+    /// The lists for which it may stand, the pages in view, and the homes of resident pointers.
+    ghost held: { Self → PagesHeld };
+
+    /// Brings a page into view, where it stays.
+    fn enter(&mut self, page: PageNo) -> Result<(), Self::Fault>
+        requires { Stands (held self.old) (λ list. page.0 < length list) }
+        ensures lists { OnOk result (Becomes (held self.old) (held self.new)
+            (λ old new. new ≡ old)) }
+        ensures view { OnOk result ((held self.new).in_view page.0) }
+        ensures told { told self.new ≡ told self.old };
+
+    /// The image of a page in view. It is the page of each list, but for its pointers, which are resident.
+    fn image(&self, page: PageNo) -> &PageImage
+        requires { (held self.now).in_view page.0 }
+        ensures { Shows (told self.now) (held self.now) page.0 result.now.bytes };
+
+    /// Replaces bytes of a page other than that of roots, beside all cells and tag rows that it has. One cell
+    /// of zeros may be added by them, with a row whose code's size is told.
+    fn edit(&mut self, page: PageNo, at: u16, bytes: &[u8]) -> Result<(), Self::Fault>
+        requires may { (told self.old).may_edit ≡ true }
+        requires puts { Stands (held self.old) (CanPut (told self.old) page.0 at bytes.now) }
+        ensures lists { OnOk result (Becomes (held self.old) (held self.new)
+            (λ old new. new ≡ with_bytes old page.0 at bytes.now)) }
+        ensures told { told self.new ≡ told self.old };
+
+    /// Replaces a pointer of a live cell by a resident one that leads to a page, or is 0.
+    fn edit_pointer(&mut self, page: PageNo, at: u16, pointer: u32) -> Result<(), Self::Fault>
+        requires may { (told self.old).may_edit ≡ true }
+        requires there { Stands (held self.old) (HasPointer (told self.old) page.0 at) }
+        requires leads { IsSome ((held self.old).home pointer) }
+        ensures lists { let stored = stored_or_null ((held self.old).home pointer) in
+            OnOk result (Becomes (held self.old) (held self.new)
+            (λ old new. new ≡ with_pointer_at stored page.0 at old)) }
+        ensures told { told self.new ≡ told self.old };
+
+    /// Replaces row `i` of the page of roots by one with a name of at most 31 bytes and a resident pointer
+    /// that leads to a page, or is 0. A row with no name is free, and its pointer is 0.
+    fn edit_root(&mut self, i: u16, name: &[u8], pointer: u32) -> Result<(), Self::Fault>
+        requires may { (told self.old).may_edit ≡ true }
+        requires there { i < most_roots }
+        requires some { Stands (held self.old) (λ list. ROOTS_PAGE < length list) }
+        requires row { IsRootAsked name.now pointer }
+        requires leads { IsSome ((held self.old).home pointer) }
+        ensures lists { let stored = stored_or_null ((held self.old).home pointer) in
+            OnOk result (Becomes (held self.old) (held self.new)
+            (λ old new. new ≡ with_root i name.now stored old)) }
+        ensures told { told self.new ≡ told self.old };
+}
