@@ -26,7 +26,7 @@ use Rattle.ostore_graph_model.specs.Records.{heap_cell, heap_of}
 use Rattle.ostore_graph_model.specs.StandsFor.{StandsFor, ShowsObjects, ShowsPairs, ShowsLists, ShowsDictionaries, ShowsRoots, ShowsSerials, ShowsIndexes}
 use Rattle.ostore_graph_model.specs.Valid.{HasGoodPages}
 use Rattle.ostore_graph_model.specs.LawsOfMeaning.{HoldGraph, LeavesGraph}
-use Rattle.ostore_graph_model.proofs.AllocationLaws.{IsFirst}
+use Rattle.ostore_page_tags.proofs.allocation.ChainLaws.{IsOwned}
 use Rattle.ostore_graph_model.proofs.PageLaws.{page_link, header_is, bytes_at-other, first_of_some}
 use Rattle.ostore_graph_model.proofs.AddressLaws.{cell_at-put_all, page_put}
 use Rattle.ostore_graph_model.proofs.EditLaws.{put_roots, put_firsts, put_text, put_text_length}
@@ -57,7 +57,7 @@ module _ (schema : Schema) (old new : List PageImage) (segment : ℕ) (draws : D
   some_first : first_page old segment ≢ 0
   some_first none = draws.some (sym draws.first ∙ none)
 
-  the_first : IsFirst (length old) (header_at old) segment (first_page old segment)
+  the_first : IsOwned (length old) (header_at old) segment (first_page old segment)
   the_first = first_of_some old segment allocated some_first
 
   high : 10 ≤ draws.page

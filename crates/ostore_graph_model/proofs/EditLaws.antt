@@ -17,7 +17,8 @@ use Rattle.ostore_graph_model.specs.PageEdits.{PutsPage, EditsAt}
 use Rattle.ostore_graph_model.specs.Valid.{HasGoodPages}
 use Rattle.ostore_page_tags.specs.Numbers.{number_at}
 use Rattle.std.proofs.lemmas.Bool.{cases_eq}
-use Rattle.ostore_graph_model.proofs.AllocationLaws.{allocated_kept, chained_kept}
+use Rattle.ostore_page_tags.proofs.allocation.ChainLaws.{chains_kept}
+use Rattle.ostore_graph_model.proofs.AllocationLaws.{allocated_kept}
 use Rattle.ostore_graph_model.proofs.AddressLaws.{page_put, cell_at-page}
 use Rattle.ostore_graph_model.proofs.PageLaws.{PageLink, page_link, bytes_are, bytes_at-other, roots_of-set, first_page-set, schema_bytes-set, schema_text-set}
 
@@ -79,7 +80,7 @@ module _ (old new : List PageImage) (page : ℕ) (was image : PageImage) (puts :
         ]) (
           chains.0,
           chains.1,
-          chained_kept (length old) (header_at old) (header_at new) (first_of old) (first_of new) chains.0 chains.1 chains.2
+          chains_kept (length old) (header_at old) (header_at new) (first_of old) (first_of new) chains.0 chains.1 chains.2
               (link_same (λ h. h.next) (ap (λ (l : PageLink). l.next) link)) (link_same (λ h. h.kind) (ap (λ (l : PageLink). l.kind) link)) (link_same (λ h. h.segment) (ap (λ (l : PageLink). l.segment) link)) (link_same (λ h. h.last_page) (ap (λ (l : PageLink). l.last_page) link))
               (λ segment within. same_first_of segment) (λ q none. link_same (λ h. h.last_serial) counter q),
         )

@@ -12,7 +12,8 @@ use Rattle.ostore_page_tags.specs.PageLists.{bytes_at, header_at, first_of, sche
 use Rattle.ostore_page_tags.specs.PageChains.{IsSegment}
 use Rattle.ostore_page_tags.specs.Allocated.{IsAllocated}
 use Rattle.ostore_graph_model.specs.FixedPages.{roots_of, first_page}
-use Rattle.ostore_graph_model.proofs.AllocationLaws.{IsFirst, first_of_chain}
+use Rattle.ostore_page_tags.proofs.allocation.ChainLaws.{IsOwned}
+use Rattle.ostore_graph_model.proofs.AllocationLaws.{first_of_chain}
 use Rattle.ostore_graph_model.proofs.AddressLaws.{slice_get-set_other}
 
 -- ---- bytes and headers
@@ -56,11 +57,11 @@ first_within pages s some = by (leb 1 s && leb s 255) refl
     by true e = (leb-true 1 s (and_parts _ _ e).0, leb-true s 255 (and_parts (leb 1 s) _ e).1)
     by false e = absurd (some (ap (λ c. cond c (first_of pages s) 0) e))
 
-pub first_of_some : (pages : List PageImage) (s : ℕ) → IsAllocated pages → first_page pages s ≢ 0 → IsFirst (length pages) (header_at pages) s (first_page pages s)
+pub first_of_some : (pages : List PageImage) (s : ℕ) → IsAllocated pages → first_page pages s ≢ 0 → IsOwned (length pages) (header_at pages) s (first_page pages s)
 first_of_some pages s fine some =
     let within = first_within pages s some in
     let is = first_is pages s within in
-    subst (IsFirst (length pages) (header_at pages) s) (sym is) (first_of_chain pages s fine within (λ none. some (is ∙ none)))
+    subst (IsOwned (length pages) (header_at pages) s) (sym is) (first_of_chain pages s fine within (λ none. some (is ∙ none)))
 
 -- ---- a page from 10 on is put
 

@@ -21,7 +21,8 @@ use Rattle.std.proofs.Common.{take, drop}
 use Rattle.ostore_page_tags.specs.Numbers.{number_at}
 use Rattle.ostore_graph_model.specs.LawsOfMeaning.{LawOfTakenPages}
 use Rattle.ostore_graph_model.specs.PageEdits.{ReadsSame}
-use Rattle.ostore_graph_model.proofs.AllocationLaws.{here, later, schema_bytes_same, free_page, no_cells}
+use Rattle.ostore_page_tags.proofs.allocation.ChainLaws.{here, later}
+use Rattle.ostore_graph_model.proofs.AllocationLaws.{schema_bytes_same, free_page, no_cells}
 use Rattle.ostore_graph_model.proofs.PageLaws.{first_is, first_within}
 use Rattle.ostore_graph_model.proofs.SameLaws.{same_law}
 

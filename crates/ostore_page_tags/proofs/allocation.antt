@@ -2,3 +2,4 @@ pub mod PlainPages
 pub mod FreshChains
 pub mod FreshParts
 pub mod FreshPages
+pub mod ChainLaws

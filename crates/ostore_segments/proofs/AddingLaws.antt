@@ -33,7 +33,7 @@ use Rattle.ostore_segments.specs.Serials.{SameLists}
 use Rattle.ostore_segments.specs.Adding.{Adds}
 use Rattle.ostore_segments.specs.inside.Fields.{HasHeaderAt, row_of_live}
 use Rattle.ostore_segments.proofs.PutLaws.{edited_length, edited_here, edited_other}
-use Rattle.ostore_segments.proofs.ChainLaws.{free_kept, chain_kept, chains_kept}
+use Rattle.ostore_page_tags.proofs.allocation.ChainLaws.{free_kept, chain_kept, chains_kept}
 use Rattle.ostore_segments.proofs.AllocatedLaws.{data_page, allocated_kept}
 
 -- ---- reading what was put

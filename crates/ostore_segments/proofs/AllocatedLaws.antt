@@ -10,7 +10,7 @@ use Rattle.ostore_page_tags.specs.PageChains.{IsSegment, IsOpen, AreChained}
 use Rattle.ostore_page_tags.specs.Allocated.{IsAllocated, IsFront, IsFreePage, IsRoots, EndsInZeros, HasChains}
 use Rattle.ostore_segments.specs.Serials.{SameElsewhere}
 use Rattle.ostore_segments.specs.inside.Fields.{HasHeaderAt, BeginsWith}
-use Rattle.ostore_segments.proofs.ChainLaws.{IsOwned, chain_first}
+use Rattle.ostore_page_tags.proofs.allocation.ChainLaws.{IsOwned, chain_first}
 
 pub first_page : (list : List PageImage) (segment : ℕ) → IsAllocated list → IsSegment segment → first_of list segment ≢ 0 → IsOwned (length list) (header_at list) segment (first_of list segment)
 first_page list segment fine within some =

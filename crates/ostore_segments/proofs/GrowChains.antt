@@ -6,7 +6,7 @@ use Rattle.std.proofs.lemmas.List.Elements.{All-contains, All-append, Contains-a
 use Rattle.std.proofs.lemmas.List.Quantifiers.{all_pairs_push}
 use Rattle.ostore_page_tags.specs.declared.page_header.PageHeader.{PageHeader}
 use Rattle.ostore_page_tags.specs.PageChains.{IsWalk, last_of, IsSegment, IsOpen, HasHeader, IsNoFirst, IsReached, IsFreeList, IsChain, AreChained}
-use Rattle.ostore_segments.proofs.ChainLaws.{here, later, walk_same, IsOwned, chain_owned, chain_first}
+use Rattle.ostore_page_tags.proofs.allocation.ChainLaws.{here, later, walk_same, IsOwned, chain_owned, chain_first}
 
 pub last_in : (page : ℕ) (pages : List ℕ) → Contains (page ∷ pages) (last_of (page ∷ pages))
 last_in page [] = here page []

@@ -26,7 +26,7 @@ use Rattle.ostore_segments.proofs.PutLaws.{edited_length, edited_here, edited_ot
 use Rattle.ostore_segments.proofs.FieldLaws.{IsField, next_written, last_written}
 use Rattle.ostore_segments.proofs.SeenLaws.{no_cells}
 use Rattle.ostore_segments.proofs.AllocatedLaws.{IsHead, head_page, data_page, free_page, first_page, first_headed, allocated_kept, room_in, room_at}
-use Rattle.ostore_segments.proofs.ChainLaws.{IsOwned, chain_owned}
+use Rattle.ostore_page_tags.proofs.allocation.ChainLaws.{IsOwned, chain_owned}
 use Rattle.ostore_segments.proofs.GrowChains.{Growth, new_free, more_chain, other_chain, grown_chain, grown_linked, grown_counters, last_in}
 use Rattle.ostore_segments.proofs.EditLaws.{puts_bare, puts_field}
 use Rattle.ostore_segments.proofs.StepLaws.{step_header, step_others, step_field, step_length, step_good, step_cells, step_firsts}

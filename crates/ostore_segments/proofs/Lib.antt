@@ -3,7 +3,6 @@ pub mod SeenLaws
 pub mod PutLaws
 pub mod FieldLaws
 pub mod EditLaws
-pub mod ChainLaws
 pub mod GrowChains
 pub mod AllocatedLaws
 pub mod SerialLaws

@@ -21,7 +21,7 @@ use Rattle.ostore_segments.specs.Making.{IsObjectAsked, DrawsAndAdds, Makes}
 use Rattle.ostore_segments.specs.declared.objects.NewCell.{NewCell}
 use Rattle.ostore_segments.specs.declared.placement.NoSpace.{NoSpace}
 use Rattle.ostore_segments.proofs.ListSteps.{Then}
-use Rattle.ostore_segments.proofs.ChainLaws.{here, chain_owned}
+use Rattle.ostore_page_tags.proofs.allocation.ChainLaws.{here, chain_owned}
 use Rattle.ostore_segments.proofs.RoomLaws.{last_there}
 
 -- ---- the page

@@ -23,7 +23,7 @@ use Rattle.ostore_segments.specs.Placing.{Places, last, grown, early, FindsNone}
 use Rattle.ostore_segments.specs.inside.Walks.{HasWalked, HasListed}
 use Rattle.ostore_segments.specs.inside.Fields.{HasHeaderAt}
 use Rattle.ostore_segments.proofs.AllocatedLaws.{owned_headed, room_in}
-use Rattle.ostore_segments.proofs.ChainLaws.{here, IsOwned, chain_owned}
+use Rattle.ostore_page_tags.proofs.allocation.ChainLaws.{here, IsOwned, chain_owned}
 use Rattle.ostore_segments.proofs.GrowLaws.{chain_last}
 use Rattle.ostore_segments.proofs.GrowChains.{last_in}
 

@@ -20,7 +20,7 @@ use Rattle.ostore_page_tags.specs.PageChains.{IsSegment, AreChained, IsChain, Is
 use Rattle.ostore_page_tags.specs.Allocated.{IsAllocated, IsFreePage, IsFront}
 use Rattle.ostore_segments.proofs.PutLaws.{edited_length, edited_here, edited_other}
 use Rattle.ostore_segments.proofs.FieldLaws.{IsField, serial_written, field_length, field_page, field_cells}
-use Rattle.ostore_segments.proofs.ChainLaws.{IsOwned, free_kept, chain_kept, chains_kept}
+use Rattle.ostore_page_tags.proofs.allocation.ChainLaws.{IsOwned, free_kept, chain_kept, chains_kept}
 use Rattle.ostore_segments.proofs.AllocatedLaws.{first_page, data_page, allocated_kept, room_in, room_at}
 
 module _ (old : List PageImage) (first serial : ℕ) where

@@ -12,5 +12,5 @@ put_bytes-requires-clause-there c = alone_stands c.args.self.now.pages c.require
 pub returns-clause-lists : goal.returns-clause-lists
 returns-clause-lists c =
     let is : c.put_bytes.new.pages ≡ with_root c.args.i c.args.name.now c.args.pointer c.args.self.now.pages =
-        c.put_bytes.ensures ∙ ap (with_bytes c.args.self.now.pages 9 (32 + 40 * c.args.i)) c.root_row-row.ensures in
+    c.put_bytes.ensures ∙ ap (with_bytes c.args.self.now.pages 9 (32 + 40 * c.args.i)) c.root_row-row.ensures in
     alone_becomes c.args.self.now.pages _ (ap (λ (list : List PageImage). length list) is ∙ edited_length c.args.self.now.pages 9 (32 + 40 * c.args.i) (root_row c.args.name.now c.args.pointer)) is
