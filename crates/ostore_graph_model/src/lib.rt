@@ -3,6 +3,7 @@
 #![tactic(auto)]
 
 mod commands;
+mod copying;
 mod history;
 mod laws;
 mod laws_of_cells;

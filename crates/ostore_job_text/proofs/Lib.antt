@@ -1,6 +1,6 @@
-pub mod WordLaws
-pub mod GrammarSteps
-pub mod GrammarCommands
-pub mod GrammarJobs
-pub mod GrammarInput
-pub mod GrammarLoops
+pub mod PrintWords
+pub mod WordLoops
+pub mod DraftLoops
+pub mod CommandTaken
+pub mod LineTaken
+pub mod JobTaken

@@ -1,5 +1,13 @@
 -- What the contracts of public calls rest on.
 pub mod Limits
+pub mod JobFaults
+pub mod CommandWords
+pub mod Canonical
+pub mod WordsSaid
+pub mod LinesSaid
+pub mod Drafted
+pub mod ParsedJob
+pub mod JobSpelling
 pub mod Spelling
 pub mod Results
 pub mod Report

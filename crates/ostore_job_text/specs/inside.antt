@@ -1,2 +1,2 @@
-pub mod CommandWords
-pub mod JobAt
+pub mod Spaced
+pub mod WordLoops

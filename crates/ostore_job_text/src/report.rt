@@ -4,15 +4,17 @@ ghost use Rattle.std.specs.Prelude.{◌≡◌, ◌++◌, IfOk, OnOk};
 ghost use Rattle.ostore_job_text.specs.Report.{result_text, client_text, told_line, tail_text, clients_text, report};
 
 mod fault;
+#[cfg(test)]
+mod fault_tests;
 mod outcomes;
-mod pieces;
+pub(crate) mod pieces;
 mod replies;
 #[cfg(test)]
 mod tests;
 
 use crate::job::{Job, JobClient};
 use crate::results::{ClientResults, Results, Tail, TxnResult};
-pub use fault::print_schema_fault;
+pub use fault::{print_job_fault, print_schema_fault};
 use ostore_base::{OutOfMemory, Text};
 use outcomes::{push_outcome, push_replies_told};
 use pieces::push_number;

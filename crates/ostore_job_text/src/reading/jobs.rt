@@ -1,89 +1,87 @@
-//! Jobs, read from their lines.
+//! Jobs, read from their texts.
 
-ghost use Rattle.std.specs.Prelude.{◌≡◌, ◌<◌, [], false, length};
-ghost use Rattle.ostore_job_text.specs.inside.JobAt.{Gives, GivesCommands, GivesTxn, seen_words, seen_lines, txns_at, client_at, job_at};
+ghost use Rattle.std.specs.Prelude.{◌≡◌, ◌⊎◌, ◌+◌, ◌^◌, ◌<◌, ◌≤◌, length, drop, IfOk, IfSome};
+ghost use Rattle.ostore_text_words.specs.Gives.{GivesSame};
+ghost use Rattle.ostore_text_words.specs.Lines.{utf8_fault};
+ghost use Rattle.ostore_job_text.specs.ParsedJob.{IsOrMemory, drafted, job_drafted, parsed_from, parsed_job};
+ghost use Rattle.ostore_job_text.specs.JobSpelling.{SpellsJob};
 
-use crate::job::{DEFAULT_CACHE, DEFAULT_FRAMES, DEFAULT_TRIES, Job, JobClient};
-use crate::reading::commands::read_command;
-use crate::reading::fault::ReadFault;
-use crate::reading::lines::{is_only, read_named};
-use ostore_base::{ListOf, Text};
-use ostore_graph_model::{Commands, Txn, Txns};
-use ostore_text_words::{Line, Word};
+use super::draft::Draft;
+use super::lines::{ends, stand_after, take_line};
+use crate::fault::JobFault;
+use crate::job::Job;
+use crate::said::Stand;
+use ostore_text_words::{LineReader, TextFault, utf8_fault};
 use std::alloc::Global;
 
-/// The commands up to the line `commit`, and how many lines they are with it.
-fn read_commands(alloc: Global, lines: &[Line]) -> Result<(Commands, usize), ReadFault>
-    ensures { GivesCommands lines.now result }
+/// The longest text that is read, in bytes.
+pub const LONGEST_TEXT: usize = 4_194_304;
+
+/// What the lines put together, up to the end of the text.
+fn read_draft(alloc: Global, lines: &mut LineReader, end: usize) -> Result<Draft, TextFault>
+    ensures { GivesSame result (drafted end lines.old.lines) }
 {
-    let mut commands = ListOf::new(alloc);
-    for (i, line) in lines.iter().enumerate() {
-        if is_only(line.words.items(), b"commit") {
-            return Ok((commands, i + 1));
-        }
-        commands.push(read_command(alloc, line.words.items())?)?;
+    let mut draft = Draft::new(alloc);
+    let mut stand = Stand::Start;
+    while lines.has_line() {
+        let said = take_line(alloc, stand, lines)?;
+        let next = stand_after(&said);
+        draft.put(said)?;
+        stand = next;
     }
-    Err(ReadFault::Refused)
+    ends(end, stand)?;
+    Ok(draft)
 }
 
-/// The transaction at the front of the lines, and how many lines it is.
-fn read_txn(alloc: Global, lines: &[Line]) -> Result<(Txn, usize), ReadFault>
-    requires { 0 < length lines.now }
-    ensures { GivesTxn lines.now result }
+/// The job that the lines spell, or its fault.
+fn read_lines(alloc: Global, lines: &mut LineReader, end: usize) -> Result<Job, JobFault>
+    ensures { IsOrMemory result (job_drafted (drafted end lines.old.lines)) }
 {
-    if !is_only(lines[0].words.items(), b"begin") {
-        return Err(ReadFault::Refused);
+    match read_draft(alloc, lines, end) {
+        Ok(draft) => draft.finish(),
+        Err(TextFault::Syntax { at }) => Err(JobFault::Syntax { at }),
+        Err(TextFault::OutOfMemory) => Err(JobFault::OutOfMemory),
     }
-    let (commands, count) = read_commands(alloc, &lines[1..])?;
-    let txn = Txn {
-        update: true,
-        commands,
-        aborts: false,
-    };
-    Ok((txn, 1 + count))
 }
 
-/// The transactions that the lines spell, to their end.
-fn read_txns(alloc: Global, lines: &[Line]) -> Result<Txns, ReadFault>
-    ensures { Gives (λ txns. ([], txns)) result (txns_at (seen_lines lines.now) false) }
+/// What stands from a place on.
+fn text_from(text: &[u8], start: usize) -> &[u8]
+    ensures { result.now ≡ drop start text.now }
 {
-    let mut txns = ListOf::new(alloc);
-    let mut at = 0;
-    while at < lines.len() {
-        let (txn, count) = read_txn(alloc, &lines[at..])?;
-        txns.push(txn)?;
-        at += count;
+    text.get(start..).unwrap_or(&[])
+}
+
+/// The place where the text stops being UTF-8, from a place on.
+fn bad_byte(text: &[u8], start: usize) -> Option<usize>
+    ensures bad { result ≡ utf8_fault (drop start text.now) }
+    ensures within { IfSome result (λ at. start + at < length text.now) }
+{
+    utf8_fault(text_from(text, start))
+}
+
+/// The job that stands in the text from a place on, at which a line begins. Places count from the text's start.
+#[tactic(auto, unfolding(crate::specs::ParsedJob::parsed_from))]
+pub(super) fn read_job_from(alloc: Global, text: &[u8], start: usize) -> Result<Job, JobFault>
+    ensures { IsOrMemory result (parsed_from start text.now) }
+{
+    if text.len() > LONGEST_TEXT {
+        return Err(JobFault::TooLong { at: LONGEST_TEXT });
     }
-    Ok(txns)
+    if let Some(at) = bad_byte(text, start) {
+        return Err(JobFault::NotUtf8 { at: start + at });
+    }
+    let mut lines = LineReader::new(alloc, text, start)?;
+    read_lines(alloc, &mut lines, text.len())
 }
 
-/// The client that its line and its transactions' lines spell.
-#[tactic(auto, unfolding(crate::specs::inside::JobAt::client_at))]
-fn read_client(alloc: Global, line: &[Word], lines: &[Line]) -> Result<JobClient, ReadFault>
-    ensures { let words = seen_words line.now in
-        Gives (λ client. client) result (client_at words (seen_lines lines.now)) }
+/// Reads a job. Ok comes exactly for the texts of a job, and gives that one; each fault comes exactly where the
+/// text has it. TooLong is judged first, then NotUtf8, then Syntax; of the others the one that stands first is
+/// answered.
+pub fn parse_job(alloc: Global, bytes: &[u8]) -> Result<Job, JobFault>
+    // What is answered is what the text says, a fault with its place.
+    ensures exact { IsOrMemory result (parsed_job bytes.now) }
+    // What is read is spelled in the text.
+    ensures read { IfOk result (λ job. SpellsJob bytes.now job) }
 {
-    let name = read_named(line, b"client")?;
-    let txns = read_txns(alloc, lines)?;
-    Ok(JobClient {
-        name: Text::from_bytes(alloc, name)?,
-        tries: DEFAULT_TRIES,
-        cache: DEFAULT_CACHE,
-        frames: DEFAULT_FRAMES,
-        txns,
-    })
-}
-
-/// The job that the lines spell: one client, or none where there is no line.
-#[tactic(auto, unfolding(crate::specs::inside::JobAt::job_at))]
-pub(crate) fn read_job(alloc: Global, lines: &[Line]) -> Result<Job, ReadFault>
-    ensures { Gives (λ job. job) result (job_at (seen_lines lines.now)) }
-{
-    let turns = ListOf::new(alloc);
-    let mut clients = ListOf::new(alloc);
-    let [line, after @ ..] = lines else {
-        return Ok(Job { clients, turns });
-    };
-    clients.push(read_client(alloc, line.words.items(), after)?)?;
-    Ok(Job { clients, turns })
+    read_job_from(alloc, bytes, 0)
 }

@@ -1,33 +1,341 @@
-//! Words of commands that are read, and words that are none.
+//! Texts of jobs against what the grammar says of them.
 
-use super::names::{read_place, read_variable};
-use super::numbers::read_segment;
+use crate::fault::JobFault;
+use crate::job::{Job, JobClient};
+use crate::print::print_job;
+use crate::reading::jobs::parse_job;
+use ostore_base::{ClientNo, ListOf};
+use std::alloc::Global;
+use std::fmt::Write;
+use std::process::Abort;
+use std::test::Fail;
+
+/// The canonical text of the job that a text is.
+fn again(alloc: Global, text: &[u8]) -> Result<Vec<u8>, JobFault> {
+    let job = parse_job(alloc, text)?;
+    let printed = print_job(alloc, &job)?;
+    Ok(printed.into_vec())
+}
+
+/// The text is no job, for this reason.
+fn expect_fault(rt: &impl Abort, alloc: Global, text: &[u8], fault: JobFault) {
+    assert!(rt;
+        matches!(parse_job(alloc, text), Err(found) if found == fault),
+        "{text:?}"
+    );
+}
+
+const ALL_COMMANDS: &[u8] = b"client a
+begin
+new $p Part 1
+find $p 255.4294967295
+root $p top
+setroot top $p
+setroot top null
+get $p.id
+set $p.id -9223372036854775808
+set $p.name \"say \\\"a\\\\b\\\"  #\"
+set $p.name \"\"
+set $p.next $q
+set $p.next null
+follow $q $p.next
+delete $p
+insert $p.parts $q
+remove $p.parts $q
+members $p.parts
+size $p.parts
+append $p.steps $q
+put $p.steps 4294967295 $q
+at $q $p.steps 0
+bind $p.by \"k\" $q
+look $q $p.by -7
+unbind $p.by 0
+index $p.parts code
+unindex $p.parts home.code
+query $p.parts home.shelf.code = \"x\"
+query $p.parts code < 1
+query $p.parts code <= 1
+query $p.parts code > 1
+query $p.parts code >= 1
+commit
+";
 
 #[test]
-fn segments_are_1_to_255(rt: HostRuntime) {
-    for (word, segment) in [
-        (b"1".as_slice(), Some(1)),
-        (b"255".as_slice(), Some(255)),
-        (b"0".as_slice(), None),
-        (b"256".as_slice(), None),
-        (b"01".as_slice(), None),
+fn every_command_is_read_and_printed_again(rt: HostRuntime) -> Result<(), Fail> {
+    assert_eq!(rt; again(rt.alloc(), ALL_COMMANDS)?.as_slice(), ALL_COMMANDS);
+    Ok(())
+}
+
+#[test]
+fn a_copy_of_its_transactions_is_equal(rt: HostRuntime) -> Result<(), Fail> {
+    let alloc = rt.alloc();
+    let job = parse_job(alloc, ALL_COMMANDS)?;
+    let mut clients = ListOf::new(alloc);
+    for client in job.clients.items() {
+        clients.push(JobClient {
+            name: client.name.copy()?,
+            tries: client.tries,
+            cache: client.cache,
+            frames: client.frames,
+            txns: client.txns.copy()?,
+        })?;
+    }
+    let turns = job.turns.copy()?;
+    let printed = print_job(alloc, &Job { clients, turns })?;
+    assert_eq!(rt; printed.bytes(), ALL_COMMANDS);
+    Ok(())
+}
+
+#[test]
+fn canonical_texts(rt: HostRuntime) -> Result<(), Fail> {
+    for (text, canonical) in [
+        (b"".as_slice(), b"".as_slice()),
+        (b"# none\n\n  \n".as_slice(), b"".as_slice()),
+        (
+            b"client a tries 3 frames 7 cache 2".as_slice(),
+            b"client a tries 3 cache 2 frames 7\n".as_slice(),
+        ),
+        (
+            b"client a frames 65536 cache 256 tries 16\n".as_slice(),
+            b"client a\n".as_slice(),
+        ),
+        (
+            b"client a\nturns a*1 a*2\n".as_slice(),
+            b"client a\nturns a a*2\n".as_slice(),
+        ),
+        (
+            b"client a\nclient b\nturns b\n# more\nturns a*1000000 b\n".as_slice(),
+            b"client a\nclient b\nturns b a*1000000 b\n".as_slice(),
+        ),
     ] {
-        assert_eq!(rt; read_segment(word), segment);
+        assert_eq!(rt; again(rt.alloc(), text)?.as_slice(), canonical);
+    }
+    Ok(())
+}
+
+const FOUR: &[u8] = b"client a tries 3 cache 2 frames 7
+begin
+new $p Part 1
+abort
+read
+get $p.id
+commit
+client b cache 16384
+begin
+commit
+read
+abort
+client c
+client d tries 1000
+turns a b*2 c*1000000 d a
+";
+
+#[test]
+fn a_job_of_four_clients(rt: HostRuntime) -> Result<(), Fail> {
+    assert_eq!(rt; again(rt.alloc(), FOUR)?.as_slice(), FOUR);
+    let job = parse_job(rt.alloc(), FOUR)?;
+    let clients = job.clients.items();
+    assert_eq!(rt; clients.len(), 4);
+    assert_eq!(rt;
+        [clients[0].tries, clients[0].cache, clients[0].frames],
+        [3, 2, 7]
+    );
+    assert_eq!(rt;
+        [clients[1].tries, clients[1].cache, clients[1].frames],
+        [16, 16384, 65536]
+    );
+    let txns = clients[0].txns.items();
+    assert_eq!(rt; txns.len(), 2);
+    assert!(rt; txns[0].update && txns[0].aborts && !txns[1].update && !txns[1].aborts);
+    let turns = job.turns.items();
+    assert_eq!(rt; turns.len(), 5);
+    assert_eq!(rt; turns[2].client, ClientNo(2));
+    assert_eq!(rt; turns[2].count, 1_000_000);
+    Ok(())
+}
+
+#[test]
+fn words_that_cannot_stand(rt: HostRuntime) {
+    for (text, at) in [
+        (b"client a\nbegin\n".as_slice(), 15),
+        (b"client a\nbegin".as_slice(), 14),
+        (b"begin\n".as_slice(), 0),
+        (b"client\n".as_slice(), 6),
+        (b"client job\n".as_slice(), 7),
+        (b"client a tries \n".as_slice(), 15),
+        (b"client a tries 01\n".as_slice(), 15),
+        (b"client a tries x\n".as_slice(), 15),
+        (b"client a \"q 2\n".as_slice(), 9),
+        (b"client a mail\n".as_slice(), 13),
+        (b"client a\nbegin now\ncommit\n".as_slice(), 15),
+        (b"client a\nbegin\ncommit 1\n".as_slice(), 22),
+        (b"client a\nbegin\nbegin\ncommit\n".as_slice(), 15),
+        (b"client a\nread\nabort\nabort\n".as_slice(), 20),
+        (b"client a\n# \x01\n".as_slice(), 11),
+        (
+            b"client a\nbegin\nset $p.n \"a\tb\"\ncommit\n".as_slice(),
+            26,
+        ),
+        (
+            b"client a\nbegin\nset $p.n \"a\\b\"\ncommit\n".as_slice(),
+            24,
+        ),
+        (b"client a\nbegin\nset $p.n \"a\"b\ncommit\n".as_slice(), 24),
+        (b"client a\nbegin\nnew $p Part 0\ncommit\n".as_slice(), 27),
+        (b"client a\nbegin\nnew $p Part 256\ncommit\n".as_slice(), 27),
+        (b"client a\nbegin\nfind $p 1.0\ncommit\n".as_slice(), 23),
+        (
+            b"client a\nbegin\nat $q $p.s 4294967296\ncommit\n".as_slice(),
+            26,
+        ),
+        (
+            b"client a\nbegin\nindex $p.s a.b.c.d\ncommit\n".as_slice(),
+            26,
+        ),
+        (
+            b"client a\nbegin\nquery $p.s a == 1\ncommit\n".as_slice(),
+            28,
+        ),
+        (b"client a\nbegin\nset $p.id +1\ncommit\n".as_slice(), 25),
+        (b"client a\nbegin\nget $p.id 1\ncommit\n".as_slice(), 25),
+        (b"client a\nbegin\nget $p\ncommit\n".as_slice(), 19),
+        (b"client a\nturns\n".as_slice(), 14),
+        (b"client a\nturns a*0\n".as_slice(), 15),
+        (b"client a\nturns a*1000001\n".as_slice(), 15),
+        (b"client a\nturns a\nclient b\n".as_slice(), 17),
+    ] {
+        expect_fault(&rt, rt.alloc(), text, JobFault::Syntax { at });
     }
 }
 
 #[test]
-fn names_in_words(rt: HostRuntime) {
-    assert!(rt; read_variable(b"$part") == Some(b"part".as_slice()));
-    assert!(rt; read_place(b"$part.x") == Some((b"part".as_slice(), b"x".as_slice())));
-    for word in [b"part".as_slice(), b"$part.x".as_slice(), b"$1".as_slice()] {
-        assert!(rt; read_variable(word).is_none());
-    }
-    for word in [
-        b"$part".as_slice(),
-        b"$part.x.y".as_slice(),
-        b"$part.".as_slice(),
+fn faults_and_their_order(rt: HostRuntime) {
+    for (text, fault) in [
+        (b"\xff".as_slice(), JobFault::NotUtf8 { at: 0 }),
+        (b"begin\n# \xc3".as_slice(), JobFault::NotUtf8 { at: 8 }),
+        (
+            b"client a\nclient a\n".as_slice(),
+            JobFault::DuplicateClient { at: 16 },
+        ),
+        (
+            b"client a tries 0\n".as_slice(),
+            JobFault::BadOption { at: 9 },
+        ),
+        (
+            b"client a tries 1001\n".as_slice(),
+            JobFault::BadOption { at: 9 },
+        ),
+        (
+            b"client a cache 16385\n".as_slice(),
+            JobFault::BadOption { at: 9 },
+        ),
+        (
+            b"client a frames 65537\n".as_slice(),
+            JobFault::BadOption { at: 9 },
+        ),
+        (
+            b"client a tries 99999999999999999999999\n".as_slice(),
+            JobFault::BadOption { at: 9 },
+        ),
+        (
+            b"client a mail 3\n".as_slice(),
+            JobFault::BadOption { at: 9 },
+        ),
+        (b"client a $x 3\n".as_slice(), JobFault::BadOption { at: 9 }),
+        (
+            b"client a \"q r\" 3\n".as_slice(),
+            JobFault::BadOption { at: 9 },
+        ),
+        (
+            b"client a tries 2 cache 3 tries 2\n".as_slice(),
+            JobFault::BadOption { at: 25 },
+        ),
+        (b"turns a\n".as_slice(), JobFault::UnknownTurn { at: 6 }),
+        (
+            b"client a\nturns a b*2\n".as_slice(),
+            JobFault::UnknownTurn { at: 17 },
+        ),
+        (
+            b"client a\nclient a mail 1\n".as_slice(),
+            JobFault::DuplicateClient { at: 16 },
+        ),
+        (
+            b"client a mail 1\nclient a\n".as_slice(),
+            JobFault::BadOption { at: 9 },
+        ),
+        (b"turns a\nturns\n".as_slice(), JobFault::Syntax { at: 13 }),
+        (
+            b"client a\nclient a\nbegin\n".as_slice(),
+            JobFault::Syntax { at: 24 },
+        ),
     ] {
-        assert!(rt; read_place(word).is_none());
+        expect_fault(&rt, rt.alloc(), text, fault);
     }
+}
+
+/// So many clients, each on a line of 11 bytes.
+fn clients(alloc: Global, count: u32) -> Result<String, Fail> {
+    let mut text = String::new(alloc);
+    for i in 0..count {
+        writeln!(text, "client c{i:02}")?;
+    }
+    Ok(text)
+}
+
+#[test]
+fn clients_to_the_limit(rt: HostRuntime) -> Result<(), Fail> {
+    let alloc = rt.alloc();
+    assert_eq!(rt;
+        parse_job(alloc, clients(alloc, 16)?.as_bytes())?
+            .clients
+            .len(),
+        16
+    );
+    for count in [17, 18] {
+        let text = clients(alloc, count)?;
+        expect_fault(
+            &rt,
+            alloc,
+            text.as_bytes(),
+            JobFault::TooManyClients { at: 16 * 11 + 7 },
+        );
+    }
+    Ok(())
+}
+
+#[test]
+fn a_text_cut_anywhere_has_its_fault_within(rt: HostRuntime) {
+    for text in [ALL_COMMANDS, FOUR] {
+        for length in 0..text.len() {
+            if let Err(fault) = parse_job(rt.alloc(), &text[..length]) {
+                assert!(rt; fault.number() != 0 && fault.place() <= length);
+            }
+        }
+    }
+}
+
+#[test]
+fn texts_to_the_limit(rt: HostRuntime) -> Result<(), Fail> {
+    let alloc = rt.alloc();
+    let mut text = String::from_str(alloc, "client a\nbegin\n")?;
+    for i in 0..20_000u32 {
+        writeln!(text, "set $p.id {i}")?;
+    }
+    text.push_str("commit\n")?;
+    for i in 0..2_000u32 {
+        writeln!(text, "read\nget $v{i}.id\nabort")?;
+    }
+    for _ in 0..2_000u32 {
+        text.push_str("turns a a*2 a\n")?;
+    }
+    let job = parse_job(alloc, text.as_bytes())?;
+    assert_eq!(rt; job.turns.len(), 6_000);
+    if let [client] = job.clients.items() {
+        assert_eq!(rt; client.txns.len(), 2_001);
+    }
+    let mut long = vec![in alloc; b'#'; 4_194_304]?;
+    assert!(rt; parse_job(alloc, &long).is_ok());
+    long.push(b'#')?;
+    expect_fault(&rt, alloc, &long, JobFault::TooLong { at: 4_194_304 });
+    Ok(())
 }

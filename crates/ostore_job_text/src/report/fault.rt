@@ -1,8 +1,9 @@
 //! The line that names what is wrong with a text.
 
 ghost use Rattle.std.specs.Prelude.{◌≡◌, codes, IfOk};
-ghost use Rattle.ostore_job_text.specs.FaultLine.{fault_at_place, fault_line};
+ghost use Rattle.ostore_job_text.specs.FaultLine.{fault_at_place, fault_line, job_fault_line};
 
+use crate::fault::JobFault;
 use crate::report::pieces::push_number;
 use ostore_base::{OutOfMemory, Text};
 use ostore_schema_layout::SchemaFault;
@@ -35,4 +36,12 @@ pub fn print_schema_fault(alloc: Global, fault: &SchemaFault) -> Result<Text, Ou
 {
     let place = fault.place() as u64;
     print_fault(alloc, b"schema", fault.number(), fault.name(), place)
+}
+
+/// The line `job fault NUMBER NAME at PLACE`, with its newline.
+pub fn print_job_fault(alloc: Global, fault: &JobFault) -> Result<Text, OutOfMemory>
+    ensures { IfOk result (λ line. line ≡ job_fault_line fault.now) }
+{
+    let place = fault.place() as u64;
+    print_fault(alloc, b"job", fault.number(), fault.name(), place)
 }

@@ -1,8 +1,7 @@
-//! Numbers, words and quoted texts of a report.
+//! Numbers and words of a report.
 
 ghost use Rattle.std.specs.Prelude.{◌≡◌, ◌<◌, ◌∷◌, [], ◌++◌, false, decimal, OnOk};
 ghost use Rattle.std.specs.Fmt.{signed_decimal, digit_glyph};
-ghost use Rattle.ostore_text_words.specs.Words.{escaped, quoted};
 ghost use Rattle.ostore_job_text.specs.Report.{word_text};
 
 use itoa::Buffer;
@@ -47,25 +46,4 @@ fn push_digit(out: &mut Text, digit: u64) -> Result<(), OutOfMemory>
         b'a' + (digit as u8 - 10)
     };
     out.push_bytes(&[glyph])
-}
-
-/// Adds a text between quotes.
-pub fn push_quoted(out: &mut Text, text: &[u8]) -> Result<(), OutOfMemory>
-    ensures { OnOk result (out.new ≡ out.old ++ quoted text.now) }
-{
-    out.push_bytes(b"\"")?;
-    for byte in text {
-        push_escaped(out, *byte)?;
-    }
-    out.push_bytes(b"\"")
-}
-
-/// Adds a byte of a quoted text.
-fn push_escaped(out: &mut Text, byte: u8) -> Result<(), OutOfMemory>
-    ensures { OnOk result (out.new ≡ out.old ++ escaped byte) }
-{
-    if byte == b'"' || byte == b'\\' {
-        out.push_bytes(b"\\")?;
-    }
-    out.push_bytes(&[byte])
 }

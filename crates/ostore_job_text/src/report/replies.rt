@@ -4,9 +4,10 @@ ghost use Rattle.std.specs.Prelude.{◌≡◌, ◌++◌, codes, OnOk};
 ghost use Rattle.std.specs.List.{flat_map};
 ghost use Rattle.ostore_job_text.specs.Report.{name_text, listed_text, names_text, value_text, refusal_text, reply_text, reply_line};
 
-use crate::report::pieces::{push_int, push_number, push_quoted};
+use crate::report::pieces::{push_int, push_number};
 use ostore_base::{OutOfMemory, Text};
 use ostore_graph_model::{Listed, Name, Refusal, Reply, Value};
+use ostore_text_words::push_quoted;
 
 /// Adds a line for each reply.
 pub fn push_replies(out: &mut Text, replies: &[Reply]) -> Result<(), OutOfMemory>
