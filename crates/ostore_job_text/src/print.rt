@@ -102,7 +102,8 @@ fn push_txn(out: &mut Text, txn: &Txn) -> Result<(), OutOfMemory>
 
 /// Adds the first line of a transaction.
 fn push_begin(out: &mut Text, update: bool) -> Result<(), OutOfMemory>
-    ensures { OnOk result (out.new ≡ out.old ++ joined ((if update then codes "begin" else codes "read") ∷ [])) }
+    ensures { OnOk result
+        (out.new ≡ out.old ++ joined ((if update then codes "begin" else codes "read") ∷ [])) }
 {
     if update {
         out.push_bytes(b"begin\n")
@@ -113,7 +114,8 @@ fn push_begin(out: &mut Text, update: bool) -> Result<(), OutOfMemory>
 
 /// Adds the last line of a transaction.
 fn push_end(out: &mut Text, aborts: bool) -> Result<(), OutOfMemory>
-    ensures { OnOk result (out.new ≡ out.old ++ joined ((if aborts then codes "abort" else codes "commit") ∷ [])) }
+    ensures { OnOk result
+        (out.new ≡ out.old ++ joined ((if aborts then codes "abort" else codes "commit") ∷ [])) }
 {
     if aborts {
         out.push_bytes(b"abort\n")

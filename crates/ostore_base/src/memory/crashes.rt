@@ -92,7 +92,8 @@ fn content_before(
     skip: usize,
 ) -> Result<Vec<u8>, OutOfMemory>
     requires { skip ≤ length past.now.items }
-    ensures { IfOk result (λ held. held.items ≡ content_after first.now (drop skip past.now.items)) }
+    ensures { IfOk result
+        (λ held. held.items ≡ content_after first.now (drop skip past.now.items)) }
 {
     let mut held = Vec::from_slice(*past.allocator(), first)?;
     let mut call = past.len();

@@ -117,7 +117,8 @@ impl Held {
     /// what is there stays where memory is refused.
     pub fn put(&mut self, at: usize, bytes: &[u8]) -> Result<(), Failed>
         requires { at ≤ length self.old.bytes }
-        ensures ok { OnOk result (self.new ≡ holding (replaced at bytes.now self.old.bytes) self.old) }
+        ensures ok { OnOk result
+            (self.new ≡ holding (replaced at bytes.now self.old.bytes) self.old) }
         ensures err { OnErr result (self.new ≡ after_fault self.old) }
         ensures later { self.old.faults ≤ self.new.faults }
         ensures wanted { IsErr result → length self.old.bytes < at + length bytes.now }

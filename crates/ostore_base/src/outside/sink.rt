@@ -17,7 +17,8 @@ pub trait Sink {
     fn write(&mut self, bytes: &[u8]) -> Result<usize, Failed>
         ensures bound { IfOk result (λ n. n ≤ length bytes.now) }
         ensures some { IfOk result (λ n. 0 < length bytes.now → 0 < n) }
-        ensures written { IfOk result (λ n. written self.new ≡ appended (written self.old) (take n bytes.now)) }
+        ensures written { IfOk result
+            (λ n. written self.new ≡ appended (written self.old) (take n bytes.now)) }
         ensures kept { OnErr result (written self.new ≡ written self.old) }
         ensures cause { HasCause (faults self.old) (faults self.new) result };
 }

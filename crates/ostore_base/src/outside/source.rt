@@ -17,7 +17,8 @@ pub trait Source {
     fn read(&mut self, into: &mut [u8]) -> Result<usize, Failed>
         ensures bound { IfOk result (λ n. n ≤ length into.new) }
         ensures moved { IfOk result (λ n. left self.new ≡ without (left self.old) n) }
-        ensures bytes { IfOk result (λ n. IfSome (left self.old) (λ bytes. GivesFront bytes into.new n)) }
+        ensures bytes { IfOk result
+            (λ n. IfSome (left self.old) (λ bytes. GivesFront bytes into.new n)) }
         ensures kept { OnErr result (left self.new ≡ left self.old) }
         ensures cause { HasCause (faults self.old) (faults self.new) result };
 }

@@ -18,7 +18,8 @@ impl<W: Write> Sink for Counted<W> {
     fn write(&mut self, bytes: &[u8]) -> Result<usize, Failed>
         ensures bound { IfOk result (λ n. n ≤ length bytes.now) }
         ensures some { IfOk result (λ n. 0 < length bytes.now → 0 < n) }
-        ensures writer { WriteAppends (W.contents self.old.0) (W.contents self.new.0) result bytes.now }
+        ensures writer { WriteAppends (W.contents self.old.0) (W.contents self.new.0)
+            result bytes.now }
         ensures fault { CountsFault self.old.1 self.new.1 result }
         ensures cause { HasCause self.old.1 self.new.1 result }
     {

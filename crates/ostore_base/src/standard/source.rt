@@ -17,7 +17,8 @@ impl<R: Read> Source for Counted<R> {
     /// Answers what the reader answers.
     fn read(&mut self, into: &mut [u8]) -> Result<usize, Failed>
         ensures bound { IfOk result (λ n. n ≤ length into.new) }
-        ensures reader { ReadConsumes (R.remaining self.old.0) (R.remaining self.new.0) result into.new }
+        ensures reader { ReadConsumes (R.remaining self.old.0) (R.remaining self.new.0)
+            result into.new }
         ensures fault { CountsFault self.old.1 self.new.1 result }
         ensures cause { HasCause self.old.1 self.new.1 result }
     {

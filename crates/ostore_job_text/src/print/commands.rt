@@ -13,7 +13,9 @@ use ostore_graph_model::{Command, Idents, Key, Name, Op, Operand};
 
 /// Adds `new $to TYPE SEGMENT`.
 fn push_new(out: &mut Text, to: &Text, ty: &Text, segment: u8) -> Result<(), OutOfMemory>
-    ensures { OnOk result (out.new ≡ out.old ++ joined (codes "new" ∷ variable to.now ∷ ty.now ∷ decimal segment ∷ [])) }
+    ensures { OnOk result
+        (out.new ≡ out.old ++ joined
+        (codes "new" ∷ variable to.now ∷ ty.now ∷ decimal segment ∷ [])) }
 {
     out.push_bytes(b"new")?;
     push_variable(out, to)?;
@@ -24,7 +26,8 @@ fn push_new(out: &mut Text, to: &Text, ty: &Text, segment: u8) -> Result<(), Out
 
 /// Adds `find $to SEGMENT.SERIAL`.
 fn push_find(out: &mut Text, to: &Text, name: Name) -> Result<(), OutOfMemory>
-    ensures { OnOk result (out.new ≡ out.old ++ joined (codes "find" ∷ variable to.now ∷ name_word name ∷ [])) }
+    ensures { OnOk result
+        (out.new ≡ out.old ++ joined (codes "find" ∷ variable to.now ∷ name_word name ∷ [])) }
 {
     out.push_bytes(b"find")?;
     push_variable(out, to)?;
@@ -34,7 +37,8 @@ fn push_find(out: &mut Text, to: &Text, name: Name) -> Result<(), OutOfMemory>
 
 /// Adds `root $to ROOT`.
 fn push_root(out: &mut Text, to: &Text, root: &Text) -> Result<(), OutOfMemory>
-    ensures { OnOk result (out.new ≡ out.old ++ joined (codes "root" ∷ variable to.now ∷ root.now ∷ [])) }
+    ensures { OnOk result
+        (out.new ≡ out.old ++ joined (codes "root" ∷ variable to.now ∷ root.now ∷ [])) }
 {
     out.push_bytes(b"root")?;
     push_variable(out, to)?;
@@ -44,7 +48,8 @@ fn push_root(out: &mut Text, to: &Text, root: &Text) -> Result<(), OutOfMemory>
 
 /// Adds `setroot ROOT $item`, or `setroot ROOT null`.
 fn push_set_root(out: &mut Text, root: &Text, item: &Option<Text>) -> Result<(), OutOfMemory>
-    ensures { OnOk result (out.new ≡ out.old ++ joined (codes "setroot" ∷ root.now ∷ item_word item.now ∷ [])) }
+    ensures { OnOk result
+        (out.new ≡ out.old ++ joined (codes "setroot" ∷ root.now ∷ item_word item.now ∷ [])) }
 {
     out.push_bytes(b"setroot")?;
     push_word(out, root.bytes())?;
@@ -59,7 +64,8 @@ fn push_at_place(
     object: &Text,
     member: &Text,
 ) -> Result<(), OutOfMemory>
-    ensures { OnOk result (out.new ≡ out.old ++ joined (verb.now ∷ place object.now member.now ∷ [])) }
+    ensures { OnOk result
+        (out.new ≡ out.old ++ joined (verb.now ∷ place object.now member.now ∷ [])) }
 {
     out.push_bytes(verb)?;
     push_place(out, object, member)?;
@@ -73,7 +79,9 @@ fn push_set(
     member: &Text,
     value: &Operand,
 ) -> Result<(), OutOfMemory>
-    ensures { OnOk result (out.new ≡ out.old ++ joined (codes "set" ∷ place object.now member.now ∷ operand_word value.now ∷ [])) }
+    ensures { OnOk result
+        (out.new ≡ out.old ++ joined
+        (codes "set" ∷ place object.now member.now ∷ operand_word value.now ∷ [])) }
 {
     out.push_bytes(b"set")?;
     push_place(out, object, member)?;
@@ -83,7 +91,9 @@ fn push_set(
 
 /// Adds `follow $to $object.member`.
 fn push_follow(out: &mut Text, to: &Text, object: &Text, member: &Text) -> Result<(), OutOfMemory>
-    ensures { OnOk result (out.new ≡ out.old ++ joined (codes "follow" ∷ variable to.now ∷ place object.now member.now ∷ [])) }
+    ensures { OnOk result
+        (out.new ≡ out.old ++ joined
+        (codes "follow" ∷ variable to.now ∷ place object.now member.now ∷ [])) }
 {
     out.push_bytes(b"follow")?;
     push_variable(out, to)?;
@@ -93,7 +103,8 @@ fn push_follow(out: &mut Text, to: &Text, object: &Text, member: &Text) -> Resul
 
 /// Adds `delete $object`.
 fn push_delete(out: &mut Text, object: &Text) -> Result<(), OutOfMemory>
-    ensures { OnOk result (out.new ≡ out.old ++ joined (codes "delete" ∷ variable object.now ∷ [])) }
+    ensures { OnOk result
+        (out.new ≡ out.old ++ joined (codes "delete" ∷ variable object.now ∷ [])) }
 {
     out.push_bytes(b"delete")?;
     push_variable(out, object)?;
@@ -108,7 +119,9 @@ fn push_with_item(
     member: &Text,
     item: &Text,
 ) -> Result<(), OutOfMemory>
-    ensures { OnOk result (out.new ≡ out.old ++ joined (verb.now ∷ place object.now member.now ∷ variable item.now ∷ [])) }
+    ensures { OnOk result
+        (out.new ≡ out.old ++ joined
+        (verb.now ∷ place object.now member.now ∷ variable item.now ∷ [])) }
 {
     out.push_bytes(verb)?;
     push_place(out, object, member)?;
@@ -124,7 +137,9 @@ fn push_put(
     index: u32,
     item: &Text,
 ) -> Result<(), OutOfMemory>
-    ensures { OnOk result (out.new ≡ out.old ++ joined (codes "put" ∷ place object.now member.now ∷ decimal index ∷ variable item.now ∷ [])) }
+    ensures { OnOk result
+        (out.new ≡ out.old ++ joined
+        (codes "put" ∷ place object.now member.now ∷ decimal index ∷ variable item.now ∷ [])) }
 {
     out.push_bytes(b"put")?;
     push_place(out, object, member)?;
@@ -141,7 +156,9 @@ fn push_at(
     member: &Text,
     index: u32,
 ) -> Result<(), OutOfMemory>
-    ensures { OnOk result (out.new ≡ out.old ++ joined (codes "at" ∷ variable to.now ∷ place object.now member.now ∷ decimal index ∷ [])) }
+    ensures { OnOk result
+        (out.new ≡ out.old ++ joined
+        (codes "at" ∷ variable to.now ∷ place object.now member.now ∷ decimal index ∷ [])) }
 {
     out.push_bytes(b"at")?;
     push_variable(out, to)?;
@@ -158,7 +175,9 @@ fn push_bind(
     key: &Key,
     item: &Text,
 ) -> Result<(), OutOfMemory>
-    ensures { OnOk result (out.new ≡ out.old ++ joined (codes "bind" ∷ place object.now member.now ∷ key_word key.now ∷ variable item.now ∷ [])) }
+    ensures { OnOk result
+        (out.new ≡ out.old ++ joined
+        (codes "bind" ∷ place object.now member.now ∷ key_word key.now ∷ variable item.now ∷ [])) }
 {
     out.push_bytes(b"bind")?;
     push_place(out, object, member)?;
@@ -175,7 +194,9 @@ fn push_look(
     member: &Text,
     key: &Key,
 ) -> Result<(), OutOfMemory>
-    ensures { OnOk result (out.new ≡ out.old ++ joined (codes "look" ∷ variable to.now ∷ place object.now member.now ∷ key_word key.now ∷ [])) }
+    ensures { OnOk result
+        (out.new ≡ out.old ++ joined
+        (codes "look" ∷ variable to.now ∷ place object.now member.now ∷ key_word key.now ∷ [])) }
 {
     out.push_bytes(b"look")?;
     push_variable(out, to)?;
@@ -186,7 +207,9 @@ fn push_look(
 
 /// Adds `unbind $object.member KEY`.
 fn push_unbind(out: &mut Text, object: &Text, member: &Text, key: &Key) -> Result<(), OutOfMemory>
-    ensures { OnOk result (out.new ≡ out.old ++ joined (codes "unbind" ∷ place object.now member.now ∷ key_word key.now ∷ [])) }
+    ensures { OnOk result
+        (out.new ≡ out.old ++ joined
+        (codes "unbind" ∷ place object.now member.now ∷ key_word key.now ∷ [])) }
 {
     out.push_bytes(b"unbind")?;
     push_place(out, object, member)?;
@@ -202,7 +225,9 @@ fn push_with_path(
     member: &Text,
     path: &Idents,
 ) -> Result<(), OutOfMemory>
-    ensures { OnOk result (out.new ≡ out.old ++ joined (verb.now ∷ place object.now member.now ∷ path_word path.now ∷ [])) }
+    ensures { OnOk result
+        (out.new ≡ out.old ++ joined
+        (verb.now ∷ place object.now member.now ∷ path_word path.now ∷ [])) }
 {
     out.push_bytes(verb)?;
     push_place(out, object, member)?;
@@ -219,7 +244,10 @@ fn push_query(
     op: Op,
     key: &Key,
 ) -> Result<(), OutOfMemory>
-    ensures { OnOk result (out.new ≡ out.old ++ joined (codes "query" ∷ place object.now member.now ∷ path_word path.now ∷ op_word op ∷ key_word key.now ∷ [])) }
+    ensures { OnOk result
+        (out.new ≡ out.old ++ joined
+        (codes "query" ∷ place object.now member.now ∷ path_word path.now ∷ op_word op
+        ∷ key_word key.now ∷ [])) }
 {
     out.push_bytes(b"query")?;
     push_place(out, object, member)?;

@@ -314,7 +314,8 @@ fn read_query(alloc: Global, line: &Line) -> Result<Command, TextFault>
 /// The command of a collection.
 #[tactic(auto, unfolding(crate::specs::LinesSaid::collection_command_at))]
 fn read_collection_command(alloc: Global, line: &Line, verb: &Word) -> Result<Command, TextFault>
-    ensures { GivesSame result (collection_command_at (seen_line line.now) verb.now.at verb.now.bytes.now) }
+    ensures { GivesSame result
+        (collection_command_at (seen_line line.now) verb.now.at verb.now.bytes.now) }
 {
     if verb.bytes == b"at".as_slice() {
         return read_at(alloc, line);
@@ -343,7 +344,8 @@ fn read_collection_command(alloc: Global, line: &Line, verb: &Word) -> Result<Co
 /// The command of a member, or of a collection.
 #[tactic(auto, unfolding(crate::specs::LinesSaid::member_command_at))]
 fn read_member_command(alloc: Global, line: &Line, verb: &Word) -> Result<Command, TextFault>
-    ensures { GivesSame result (member_command_at (seen_line line.now) verb.now.at verb.now.bytes.now) }
+    ensures { GivesSame result
+        (member_command_at (seen_line line.now) verb.now.at verb.now.bytes.now) }
 {
     if verb.bytes == b"follow".as_slice() {
         return read_follow(alloc, line);

@@ -38,7 +38,8 @@ enum JobRefused {
 fn read_built_job(alloc: Global, text: &[u8], start: usize) -> Result<Job, JobRefused>
     ensures read { IfOk result (λ job. SaysJob start text.now job) }
     ensures only { IfOk result (λ job. (other : Job) → SaysJob start text.now other → other ≡ job) }
-    ensures refused { result ≡ Err JobRefused.Refused → (job : Job) → SaysJob start text.now job → ⊥ }
+    ensures refused { result ≡ Err JobRefused.Refused
+        → (job : Job) → SaysJob start text.now job → ⊥ }
 {
     match read_job_from(alloc, text, start) {
         Err(JobFault::OutOfMemory) => Err(JobRefused::OutOfMemory),

@@ -75,7 +75,8 @@ pub(super) fn bad_option(options: &[OptionSaid]) -> Option<usize>
 
 /// The first option of that name.
 fn named<'a>(options: &'a [OptionSaid], name: &[u8]) -> Option<&'a OptionSaid>
-    ensures { option_map (λ option. option.now) result ≡ find (λ option. bytes_eq option.name name.now) options.now }
+    ensures { option_map (λ option. option.now) result
+        ≡ find (λ option. bytes_eq option.name name.now) options.now }
 {
     options.iter().find(|option| option.name.bytes() == name)
 }

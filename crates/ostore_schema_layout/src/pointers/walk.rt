@@ -35,9 +35,11 @@ impl<'a> Model for Pointers<'a> {
 
     ghost Value = { List ℕ };
 
-    ghost view = { λ p. pointers_left p.found p.at p.members.now p.entry_at p.entry_size p.entries };
+    ghost view = { λ p.
+        pointers_left p.found p.at p.members.now p.entry_at p.entry_size p.entries };
 
-    ghost invariant = { λ p. (p.at + sizes p.members.now ≤ largest_cell) × (p.entry_at + p.entry_size * p.entries ≤ largest_cell) };
+    ghost invariant = { λ p. (p.at + sizes p.members.now ≤ largest_cell)
+        × (p.entry_at + p.entry_size * p.entries ≤ largest_cell) };
 }
 
 impl<'a> Pointers<'a> {

@@ -112,7 +112,8 @@ fn link_fault(
     member: &MemberDeclaration,
 ) -> Option<SchemaFault>
     ensures { result ≡ first_of (target_faults types.now (target_named_of member.now.kind)
-        ++ inverse_faults types.now ty.now member.now.name.name (target_named_of member.now.kind) (inverse_named_of member.now.kind)) }
+        ++ inverse_faults types.now ty.now member.now.name.name (target_named_of member.now.kind)
+        (inverse_named_of member.now.kind)) }
 {
     let target = member.kind.target()?;
     if first_named(types, target.name.bytes()).is_none() {

@@ -32,7 +32,8 @@ impl<'a> Model for LineReader<'a> {
 
     ghost Value = { LinesAhead };
 
-    ghost view = { λ reader. record { lines = lines_ahead reader.next reader.walk; end = reader.end } };
+    ghost view = { λ reader.
+        record { lines = lines_ahead reader.next reader.walk; end = reader.end } };
 }
 
 /// The next line of the walk that isn't passed over.
