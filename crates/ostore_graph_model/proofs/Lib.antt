@@ -1,3 +1,4 @@
+pub mod LiveLaws
 pub mod AddLaw
 pub mod AddressLaws
 pub mod AllocationLaws

@@ -1,6 +1,6 @@
 -- What holds of a command's outcome, by what holds of its refusals and of its effect.
 use Rattle.std.proofs.Common.{◌≡◌, ℕ, ◌+◌, ◌≤◌, ◌<◌, Bool, true, false, List, [], ◌∷◌, Option, Some, None, refl, sym, ap, subst, ◌∙◌, arith, cond}
-use Rattle.std.specs.Prelude.{not, ◌&&◌, nat_le, unwrap_or}
+use Rattle.std.specs.Prelude.{not, ◌&&◌, is_some, nat_le, unwrap_or}
 use Rattle.std.specs.FinMap as maps
 use Rattle.std.specs.Ordering.{nat_cmp, eq_by_cmp}
 use Rattle.std.specs.Cmp.{nat_cmp_total}
@@ -15,18 +15,18 @@ use Rattle.ostore_graph_model.specs.declared.commands.Command.{Command}
 use Rattle.ostore_graph_model.specs.declared.commands.Command.TheVariants.{New, Find, Root, SetRoot, Get, Set, Follow, Delete, Insert, Remove, Members, Size, Append, Put, At, Bind, Look, Unbind, Index, Unindex, Query}
 use Rattle.ostore_graph_model.specs.declared.commands.Operand.TheVariants as operands
 use Rattle.ostore_graph_model.specs.declared.commands.Txn.{Txn}
-use Rattle.ostore_graph_model.specs.Graph.{Graph, Object, is_drawn, last_serial}
-use Rattle.ostore_graph_model.specs.Deeds.{Vars, Stepped, Deed, LiveMember, refused, refused_or, live_member, bound_to}
-use Rattle.ostore_graph_model.specs.Deeds.Objects.{next_name, new_object, with_new, drawn}
+use Rattle.ostore_graph_model.specs.Graph.{Graph, Object, is_drawn, is_live, is_dead, last_serial}
+use Rattle.ostore_graph_model.specs.Deeds.{Vars, Stepped, Deed, LiveMember, refused, refused_or, live_member, no_name, bound_to}
+use Rattle.ostore_graph_model.specs.Deeds.Objects.{next_name, new_object, with_new, drawn, without_object}
 use Rattle.ostore_graph_model.specs.Kinds.{no_type}
 use Rattle.ostore_schema_layout.specs.Numbers.{type_named}
-use Rattle.ostore_graph_model.proofs.OrderLaws.{tied_same, same_tied}
+use Rattle.ostore_graph_model.proofs.OrderLaws.{tied_same, same_tied, name_cmp-IsTotalOrder}
 use Rattle.ostore_graph_model.specs.Step.{Task, Line, line_of, member_gives, task_gives, refusal_of, step, Steps}
 use Rattle.ostore_graph_model.specs.Transaction.{Ran, run_from, transaction, Runs, Answers}
-use Rattle.ostore_graph_model.specs.LawsOfSteps.{LawOfRefusals, LawOfReads, LawOfReadTransactions, LawOfNewNames, LawOfDrawnNames, LawOfAnswers}
+use Rattle.ostore_graph_model.specs.LawsOfSteps.{LawOfRefusals, LawOfReads, LawOfReadTransactions, LawOfNewNames, LawOfDrawnNames, LawOfDeletedNames, LawOfAnswers}
 
 -- the effect of a task has P
-abbrev TaskHas : (Stepped → Type 0) → Task → Type 0
+abbrev pub TaskHas : (Stepped → Type 0) → Task → Type 0
 TaskHas P (Task.on_graph deed) = P deed.gives
 TaskHas P (Task.on_member object member kind deed) = (at : LiveMember) → P (deed at).gives
 
@@ -177,7 +177,7 @@ law_of_read_transactions schema txn graph graph_after replies read gives =
 
 -- ---- names that are drawn
 
-abbrev KeepsDrawn : Name → Stepped → Type 0
+abbrev pub KeepsDrawn : Name → Stepped → Type 0
 KeepsDrawn x stepped = is_drawn stepped.graph x ≡ true
 
 still : (a : Bool) (s l m : ℕ) → (a && nat_le s l) ≡ true → l ≤ m → (a && nat_le s m) ≡ true
@@ -201,7 +201,7 @@ module _ (graph : Graph) (segment : ℕ) (object : Object) where
   last_is : last_serial (with_new graph segment object) segment ≡ last_serial graph segment + 1
   last_is = last_drawn segment ∙ ap (λ b. unwrap_or (cond b (Some (last_serial graph segment + 1)) (maps.get graph.serials segment)) 0) (same_tied nat_cmp_total segment segment refl)
 
-task_keeps : (schema : Schema) (vars : Vars) (graph : Graph) (x : Name) (command : Command) → is_drawn graph x ≡ true → TaskHas (KeepsDrawn x) (line_of schema vars graph command).task
+pub task_keeps : (schema : Schema) (vars : Vars) (graph : Graph) (x : Name) (command : Command) → is_drawn graph x ≡ true → TaskHas (KeepsDrawn x) (line_of schema vars graph command).task
 task_keeps schema vars graph x (New to ty segment) was =
     still (nat_le 1 x.serial) x.serial (last_serial graph x.segment) _ was (serials_rise graph segment (new_object schema (unwrap_or (type_named schema ty) no_type)) x.segment)
 task_keeps schema vars graph x (Find to name) was = was
@@ -236,7 +236,7 @@ law_of_drawn_names schema update vars vars_after graph graph_after command reply
 
 -- ---- the name of a new object
 
-abbrev NamesNew : Graph → Stepped → Type 0
+abbrev pub NamesNew : Graph → Stepped → Type 0
 NamesNew graph stepped = (x : Name) → stepped.reply ≡ replies.Named x → (is_drawn graph x ≡ false) × (is_drawn stepped.graph x ≡ true)
 
 abbrev name_in : Name → Reply → Name
@@ -247,7 +247,7 @@ never : (a b : Bool) → b ≡ false → (a && b) ≡ false
 never true b e = e
 never false b e = refl
 
-names_new : (vars : Vars) (graph : Graph) (to : List ℕ) (segment : ℕ) (object : Object) → NamesNew graph (drawn vars graph to segment object)
+pub names_new : (vars : Vars) (graph : Graph) (to : List ℕ) (segment : ℕ) (object : Object) → NamesNew graph (drawn vars graph to segment object)
 names_new vars graph to segment object x is =
     let last = last_serial graph segment in
     let named : next_name graph segment ≡ x = ap (name_in x) is in
@@ -263,6 +263,33 @@ law_of_new_names schema update vars vars_after graph graph_after to ty segment x
     (names_new vars graph to segment (new_object schema (unwrap_or (type_named schema ty) no_type))) in
     let both = all x (ap (λ (s : Stepped). s.reply) gives) in
     (both.0, sym (ap (λ (s : Stepped). is_drawn s.graph x) gives) ∙ both.1)
+
+-- ---- the name of a deleted object
+
+abbrev IsDeleted : Name → Stepped → Type 0
+IsDeleted x stepped = stepped.reply ≡ replies.Done → is_dead stepped.graph x ≡ true
+
+abbrev is_done : Reply → Bool
+is_done replies.Done = true
+is_done other = false
+
+drawn_and_gone : (a b : Bool) → a ≡ true → b ≡ false → (a && not b) ≡ true
+drawn_and_gone true false e f = refl
+drawn_and_gone true true e f = absurd cc
+drawn_and_gone false b e f = absurd cc
+
+not_live : (schema : Schema) (graph : Graph) (x : Name) → is_live (without_object schema graph x) x ≡ false
+not_live schema graph x =
+    ap (λ (o : Option Object). is_some o) (maps.get-remove name_cmp-IsTotalOrder graph.objects x x)
+    ∙ ap (λ (b : Bool). is_some (cond b None (maps.get graph.objects x))) (same_tied name_cmp-IsTotalOrder x x refl)
+
+pub law_of_deleted_names : LawOfDeletedNames
+law_of_deleted_names schema update vars vars_after graph graph_after object x is was gives =
+    let named : bound_to vars object ≡ x = ap (λ (o : Option Name). unwrap_or o no_name) is in
+    let dead : is_dead (without_object schema graph (bound_to vars object)) x ≡ true =
+    subst (λ y. is_dead (without_object schema graph y) x ≡ true) (sym named) (drawn_and_gone (is_drawn graph x) _ was (not_live schema graph x)) in
+    let all = step_has (IsDeleted x) schema vars graph (λ refusal done. absurd (let e : false ≡ true = ap is_done done in cc)) update (Delete object) (λ done. dead) in
+    sym (ap (λ (s : Stepped). is_dead s.graph x) gives) ∙ all (ap (λ (s : Stepped). s.reply) gives)
 
 -- ---- runs
 

@@ -1,14 +1,15 @@
 -- Laws of commands, whatever graph they are made on.
-use Rattle.std.specs.Prelude.{◌≡◌, ℕ, Bool, true, false, List}
+use Rattle.std.specs.Prelude.{◌≡◌, ℕ, Bool, true, false, List, Some}
+use Rattle.std.specs.FinMap as maps
 use Rattle.ostore_schema_layout.specs.declared.schema.Schema.{Schema}
 use Rattle.ostore_graph_model.specs.declared.values.Name.{Name}
 use Rattle.ostore_graph_model.specs.declared.values.Reply.{Reply}
-use Rattle.ostore_graph_model.specs.declared.values.Reply.TheVariants.{Named, Refused}
+use Rattle.ostore_graph_model.specs.declared.values.Reply.TheVariants.{Done, Named, Refused}
 use Rattle.ostore_graph_model.specs.declared.refusal.Refusal.{Refusal}
 use Rattle.ostore_graph_model.specs.declared.commands.Command.{Command}
-use Rattle.ostore_graph_model.specs.declared.commands.Command.TheVariants.{New}
+use Rattle.ostore_graph_model.specs.declared.commands.Command.TheVariants.{New, Delete}
 use Rattle.ostore_graph_model.specs.declared.commands.Txn.{Txn}
-use Rattle.ostore_graph_model.specs.Graph.{Graph, is_drawn}
+use Rattle.ostore_graph_model.specs.Graph.{Graph, is_drawn, is_dead}
 use Rattle.ostore_graph_model.specs.Deeds.{Vars}
 use Rattle.ostore_graph_model.specs.Step.{line_of, Steps}
 use Rattle.ostore_graph_model.specs.Transaction.{run_from, Runs, Answers}
@@ -50,6 +51,14 @@ LawOfDrawnNames =
     → Steps schema update vars graph command reply vars_after graph_after
     → is_drawn graph x ≡ true
     → is_drawn graph_after x ≡ true
+
+-- an object that was deleted is dead
+abbrev pub LawOfDeletedNames : Type 0
+LawOfDeletedNames =
+    (schema : Schema) (update : Bool) (vars vars_after : Vars) (graph graph_after : Graph) (object : List ℕ) (x : Name)
+    → maps.get vars object ≡ Some x → is_drawn graph x ≡ true
+    → Steps schema update vars graph (Delete object) Done vars_after graph_after
+    → is_dead graph_after x ≡ true
 
 -- commands that are answered one by one have these replies as a run
 abbrev pub LawOfAnswers : Type 0

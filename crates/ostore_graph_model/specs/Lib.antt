@@ -10,6 +10,7 @@ pub mod Deeds
 pub mod Step
 pub mod Transaction
 pub mod LawsOfSteps
+pub mod LiveGraphs
 pub mod History
 pub mod Growth
 pub mod Examples

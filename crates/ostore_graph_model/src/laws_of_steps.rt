@@ -3,6 +3,8 @@
 
 ghost use Rattle.ostore_graph_model.specs.LawsOfSteps.{LawOfRefusals, LawOfReads, LawOfReadTransactions};
 ghost use Rattle.ostore_graph_model.specs.LawsOfSteps.{LawOfNewNames, LawOfDrawnNames, LawOfAnswers};
+ghost use Rattle.ostore_graph_model.specs.LawsOfSteps.{LawOfDeletedNames};
+ghost use Rattle.ostore_graph_model.specs.LiveGraphs.{LawOfLiveGraphs, LawOfEmptyGraph};
 ghost use Rattle.ostore_graph_model.specs.Growth.{LawOfGrowth};
 
 /// A command that is refused changes nothing, variables included.
@@ -30,6 +32,11 @@ pub fn drawn_name_stays_drawn()
     ensures { LawOfDrawnNames }
 {}
 
+/// The name of an object that was deleted is dead.
+pub fn deleted_name_is_dead()
+    ensures { LawOfDeletedNames }
+{}
+
 /// An update of a script may take no more pages from the free list than the whole script may.
 pub fn update_grows_no_more_than_script()
     ensures { LawOfGrowth }
@@ -38,4 +45,14 @@ pub fn update_grows_no_more_than_script()
 /// Commands that are answered one by one have these replies in a transaction.
 pub fn answers_are_replies()
     ensures { LawOfAnswers }
+{}
+
+/// Commands keep it that all that a graph holds is of live objects, and that nothing empty is held.
+pub fn graph_stays_live()
+    ensures { LawOfLiveGraphs }
+{}
+
+/// It holds of the graph of a fresh database.
+pub fn empty_graph_is_live()
+    ensures { LawOfEmptyGraph }
 {}

@@ -32,8 +32,9 @@ pub use laws_of_pages::{
     text_is_written,
 };
 pub use laws_of_steps::{
-    answers_are_replies, drawn_name_stays_drawn, new_name_is_new, read_transaction_changes_nothing,
-    reading_changes_nothing, refusal_changes_nothing, update_grows_no_more_than_script,
+    answers_are_replies, deleted_name_is_dead, drawn_name_stays_drawn, empty_graph_is_live,
+    graph_stays_live, new_name_is_new, read_transaction_changes_nothing, reading_changes_nothing,
+    refusal_changes_nothing, update_grows_no_more_than_script,
 };
 pub use refusal::Refusal;
 pub use values::{Listed, Name, Names, Replies, Reply, Scalar, Value};
