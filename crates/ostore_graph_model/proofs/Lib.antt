@@ -1,3 +1,13 @@
+pub mod HistoryJoins
+pub mod HistoryAdds
+pub mod HistoryGraphs
+pub mod SerialHistories
+pub mod OrderLaws
+pub mod KeyLaws
+pub mod StepLaws
+pub mod GrowthLaws
+pub mod Computing
+pub mod Rows
 pub mod LiveLaws
 pub mod AddLaw
 pub mod AddressLaws
@@ -13,13 +23,11 @@ pub mod GraphLaws
 pub mod HeapLaws
 pub mod IndexLaws
 pub mod ItemLaws
-pub mod KeyLaws
 pub mod ListLaws
 pub mod MemberEdits
 pub mod MemberLaws
 pub mod NewObjectLaw
 pub mod ObjectLaws
-pub mod OrderLaws
 pub mod PageLaws
 pub mod RecordLaws
 pub mod ReferenceLaw
@@ -46,7 +54,3 @@ pub mod SetFacts
 pub mod JoinedFacts
 pub mod SizeLaw
 pub mod PartnerLaws
-pub mod StepLaws
-pub mod GrowthLaws
-pub mod Computing
-pub mod Rows

@@ -17,6 +17,10 @@ txn_at script client ordinal =
 abbrev pub updates : List Committed → List Committed
 updates committed = filter (λ one. one.entry.update) committed
 
+-- the number of the last update, or the first number where there is none
+abbrev pub last_number : ℕ → List Committed → ℕ
+last_number first committed = first + length (updates committed)
+
 -- the number of the graph that a transaction began from
 abbrev pub number_before : Bool → ℕ → ℕ
 number_before update number = if update then number - 1 else number
@@ -44,11 +48,19 @@ pub record IsLegalHistory (script : Script) (first : ℕ) (graph : Graph) (commi
   -- the graph at each number
   pub graphs : ℕ → Graph
   pub begins : graphs first ≡ graph
-  pub ends : graphs (first + length (updates committed)) ≡ last
+  pub ends : graphs (last_number first committed) ≡ last
   -- the updates have the numbers after first, each once
   pub numbers : IsPermutation (map (λ one. one.number) (updates committed)) (range_with_len (first + 1) (length (updates committed)))
-  pub right : All (IsRight script first (first + length (updates committed)) graphs) committed
+  pub right : All (IsRight script first (last_number first committed) graphs) committed
   pub order : AllPairs InOrder committed
+
+-- of two transactions the later one began when the earlier one had committed
+abbrev pub BeganAfter : Committed → Committed → Type 0
+BeganAfter earlier later = earlier.number ≤ number_before later.entry.update later.number
+
+-- the committed transactions ran one after the other, in the order of the list
+abbrev pub IsSerial : List Committed → Type 0
+IsSerial committed = AllPairs BeganAfter committed
 
 -- a transaction of the script has committed
 abbrev pub HasCommitted : ℕ → ℕ → List Committed → Type 0

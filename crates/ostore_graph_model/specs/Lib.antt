@@ -12,6 +12,7 @@ pub mod Transaction
 pub mod LawsOfSteps
 pub mod LiveGraphs
 pub mod History
+pub mod LawsOfHistories
 pub mod Growth
 pub mod Examples
 -- What a list of pages says: cells, values, what leads on, and who owns it.

@@ -8,6 +8,7 @@ mod history;
 mod laws;
 mod laws_of_cells;
 mod laws_of_collections;
+mod laws_of_histories;
 mod laws_of_pages;
 mod laws_of_steps;
 mod refusal;
@@ -24,6 +25,9 @@ pub use laws_of_cells::{
 pub use laws_of_collections::{
     collection_is_changed, count_is_list_size, item_is_appended, item_is_inserted, item_is_put,
     item_is_removed, key_is_bound, key_is_unbound,
+};
+pub use laws_of_histories::{
+    client_is_added, graphs_are_determined, read_is_added, serial_history_is_one, update_is_added,
 };
 pub use laws_of_pages::{
     each_side_shows_pairs, fresh_pages_are_empty, graph_is_one, graph_is_there, index_ascends,
