@@ -1,7 +1,9 @@
 pub mod StreamLaws
 pub mod PromiseLaws
-pub mod HistoryLaws
+pub mod RunLaws
+pub mod ResultLaws
 pub mod PlainTables
 pub mod PlainLookup
 pub mod PlainRun
 pub mod ReportLaws
+pub mod OneReport

@@ -1,119 +1,136 @@
--- A job that ran as it should has the report that is promised, and a job that a text says can run.
-use Rattle.std.proofs.Common.{◌≡◌, ℕ, ◌+◌, ◌≤◌, List, [], ◌∷◌, map, length, get_or, drop, Option, Some, None, refl, sym, ap, subst, ◌∙◌, arith}
-use Rattle.std.specs.Prelude.{IsSome}
+-- A job that ran has the report that is promised.
+use Rattle.std.proofs.Common.{◌≡◌, ℕ, zero, suc, ◌+◌, ◌-◌, ◌≤◌, Bool, true, false, cond, eqb, List, [], ◌∷◌, ◌++◌, map, length, get_or, drop, Option, Some, None, refl, sym, ap, subst, ◌∙◌, arith}
+use Rattle.std.specs.Prelude.{Any, IsSome, option_and_then, slice_get}
 use Rattle.std.specs.Option.{option_map}
 use Rattle.std.specs.List.{AllByRecursion}
-use Rattle.std.proofs.lemmas.List.{append-nil, drop_all}
+use Rattle.std.proofs.lemmas.List.Elements.{All-nil}
+use Rattle.std.proofs.lemmas.List.Sorted.{IsPermutation-refl}
+use Rattle.std.proofs.lemmas.Option.{same_Some, slice_get-map}
+use Rattle.std.proofs.Math.Dec.{eqb-suc-zero}
 use Rattle.ostore_schema_layout.specs.declared.schema.Schema.{Schema}
 use Rattle.ostore_schema_layout.specs.declared.schema.TypeDef.{TypeDef}
 use Rattle.ostore_graph_model.specs.declared.commands.Txn.{Txn}
+use Rattle.ostore_graph_model.specs.declared.commands.Script.{Script}
+use Rattle.ostore_graph_model.specs.declared.history.Committed.{Committed}
 use Rattle.ostore_graph_model.specs.Graph.{Graph, empty_graph}
 use Rattle.ostore_graph_model.specs.Transaction.{Ran, transaction}
-use Rattle.ostore_graph_model.specs.History.{IsLegalHistory, EveryoneStands, updates}
+use Rattle.ostore_graph_model.specs.History.{txn_at, updates, HasCommitted, IsLegalHistory, AllCommitted}
 use Rattle.ostore_job_text.specs.declared.input.TryInput.{TryInput}
 use Rattle.ostore_job_text.specs.declared.job.JobClient.{JobClient}
-use Rattle.ostore_job_text.specs.declared.job.JobTurn.{JobTurn}
 use Rattle.ostore_job_text.specs.declared.results.TxnResult.{TxnResult}
-use Rattle.ostore_job_text.specs.declared.results.TxnResult.TheVariants.{Commit}
+use Rattle.ostore_job_text.specs.declared.results.TxnResult.TheVariants.{Commit, Read, Abort}
 use Rattle.ostore_job_text.specs.Report.{report}
 use Rattle.ostore_job_text.specs.Results.{script_of, committed_of, EndedAtOnce}
-use Rattle.ostore_job_text.specs.Spelling.{Says, IsBuiltTxn, AreBuiltTypes, AreBuiltClients}
-use Rattle.ostore_cli.specs.Promise.{IsReportOf, plain_tail}
-use Rattle.ostore_cli.specs.inside.Outcomes.{Outcomes, with_before, outcomes_from, RunsJob, CannotRun, count_txns}
-use Rattle.ostore_cli.proofs.PlainBuilt.{HasIntMembers, IsSome-and_then, IsSome-map, transaction_is_some}
-use Rattle.ostore_cli.proofs.HistoryLaws.{runs_to, length_runs, legal, everyone, at_once, count_commits, legal_none, everyone_none}
+use Rattle.ostore_job_text.specs.Spelling.{Says}
+use Rattle.ostore_cli.specs.Promise.{IsReportOf, plain_tail, was_aborted, AbortsAsScripted}
+use Rattle.ostore_cli.specs.inside.Outcomes.{Moment, empty_moment, Outcomes, commits_as, AreBuilt, txn_outcome, with_before, client_outcomes, job_outcomes}
+use Rattle.ostore_cli.proofs.RunLaws.{IsRunTo, AreNamed, job_more}
+use Rattle.ostore_cli.proofs.ResultLaws.{IsOf, all_stand}
+
+-- ---- how transactions end
+
+-- the result is Abort where the script aborts it, and it was tried once
+record Ends (txn : Txn) (result : TxnResult) : Type 0 where
+  aborted : was_aborted result ≡ txn.aborts
+  at_once : EndedAtOnce result
+
+ends_by : (schema : Schema) (from : Moment) (txn : Txn) (aborts : Bool) → txn.aborts ≡ aborts → (update : Bool)
+    → Ends txn (cond aborts (record { results = Abort 1; after = from }) (commits_as update from.number (transaction schema txn from.graph))).results
+ends_by schema from txn true aborts update = record { aborted = sym aborts; at_once = refl }
+ends_by schema from txn false aborts true = record { aborted = sym aborts; at_once = refl }
+ends_by schema from txn false aborts false = record { aborted = sym aborts; at_once = refl }
+
+record ClientEnds (txns : List Txn) (results : List TxnResult) : Type 0 where
+  aborted : map was_aborted results ≡ map (λ txn. txn.aborts) txns
+  at_once : AllByRecursion EndedAtOnce results
+
+client_ends : (schema : Schema) (from : Moment) (txns : List Txn) → ClientEnds txns (client_outcomes schema from txns).results
+client_ends schema from [] = record { aborted = refl; at_once = tt }
+client_ends schema from (txn ∷ txns) =
+    let now = ends_by schema from txn txn.aborts refl txn.update in
+    let later = client_ends schema (txn_outcome schema from txn).after txns in
+    record { aborted = λ i. now.aborted i ∷ later.aborted i; at_once = (now.at_once, later.at_once) }
+
+record JobEnds (clients : List JobClient) (results : List (List TxnResult)) : Type 0 where
+  aborted : AbortsAsScripted clients results
+  at_once : AllByRecursion (AllByRecursion EndedAtOnce) results
+
+job_ends : (schema : Schema) (from : Moment) (clients : List JobClient) → JobEnds clients (job_outcomes schema from clients).results
+job_ends schema from [] = record { aborted = refl; at_once = tt }
+job_ends schema from (client ∷ clients) =
+    let now = client_ends schema from client.txns in
+    let later = job_ends schema (client_outcomes schema from client.txns).after clients in
+    record { aborted = λ i. now.aborted i ∷ later.aborted i; at_once = (now.at_once, later.at_once) }
+
+-- ---- the transactions of a job, by their ordinals
+
+and_then_map : {A B C : Type 0} (f : B → Option C) (v : A → B) (o : Option A) → option_and_then f (option_map v o) ≡ option_and_then (λ x. f (v x)) o
+and_then_map f v None = refl
+and_then_map f v (Some x) = refl
+
+txn_at_suc : (input : TryInput) (j i : ℕ) → txn_at (script_of input) j (suc i) ≡ option_and_then (λ client. slice_get client.txns i) (slice_get input.job.clients j)
+txn_at_suc input j i =
+    let less : suc i - 1 ≡ i = omega arith in
+    let there : txn_at (script_of input) j (suc i) ≡ option_and_then (λ txns. slice_get txns i) (slice_get (map (λ client. client.txns) input.job.clients) j) = rw (eqb-suc-zero i, less) refl in
+    there ∙ ap (λ (o : Option (List Txn)). option_and_then (λ txns. slice_get txns i) o) (slice_get-map (λ (client : JobClient). client.txns) input.job.clients j)
+    ∙ and_then_map (λ (txns : List Txn). slice_get txns i) (λ (client : JobClient). client.txns) (slice_get input.job.clients j)
+
+named_in : (input : TryInput) → AreNamed (script_of input) 0 input.job.clients
+named_in input j i =
+    let at : 0 + j ≡ j = omega arith in
+    let ordinal : 1 + i ≡ suc i = omega arith in
+    (λ k. txn_at (script_of input) (at k) (ordinal k)) ∙ txn_at_suc input j i
+
+everyone : (input : TryInput) (results : List (List TxnResult)) → JobEnds input.job.clients results → AllCommitted (script_of input) (committed_of results)
+everyone input results ends client zero txn there kept = absurd cc
+everyone input results ends client (suc i) txn there kept =
+    let ordinal : 1 + i ≡ suc i = omega arith in
+    subst (λ (n : ℕ). HasCommitted client n (committed_of results)) ordinal
+    (all_stand 0 input.job.clients results ends.aborted ends.at_once client i txn (sym (txn_at_suc input client i) ∙ there) kept client (omega arith))
 
 -- ---- the report
 
--- the parts of a right report but its text
-record IsFinished (input : TryInput) (results : List (List TxnResult)) : Type 0 where
-  last : Graph
-  history : IsLegalHistory (script_of input) 0 empty_graph (committed_of results) last
-  everyone_there : EveryoneStands (script_of input) (committed_of results)
-  one_each : map (λ outcomes. length outcomes) results ≡ map (λ client. length client.txns) input.job.clients
-  each_at_once : AllByRecursion (AllByRecursion EndedAtOnce) results
-  commits : length (updates (committed_of results)) ≡ count_txns input.job.clients
-
-finished : (schema : Schema) (clients : List JobClient) (turns : List JobTurn) (results : List (List TxnResult)) → AreBuiltClients clients → RunsJob schema clients results
-    → IsFinished (record { schema = schema; job = record { clients = clients; turns = turns } }) results
-finished schema [] turns results built runs =
-    subst (λ (found : List (List TxnResult)). IsFinished (record { schema = schema; job = record { clients = []; turns = turns } }) found) (sym runs) (record {
-      last = empty_graph;
-      history = legal_none schema;
-      everyone_there = everyone_none schema;
-      one_each = refl;
-      each_at_once = tt;
-      commits = refl;
-    })
-finished schema (only ∷ []) turns results built runs =
-    let ran = runs_to schema 0 empty_graph only.txns runs.0 runs.1 in
-    subst (λ (found : List (List TxnResult)). IsFinished (record { schema = schema; job = record { clients = only ∷ []; turns = turns } }) found) (sym runs.2) (record {
-      last = runs.0.last;
-      history = legal schema only.txns runs.0.results runs.0.last built.txns ran;
-      everyone_there = everyone schema only.txns runs.0.results runs.0.last ran;
-      one_each = ap (λ (n : ℕ). n ∷ []) (length_runs schema 0 empty_graph only.txns runs.0.results runs.0.last ran);
-      each_at_once = (at_once schema 0 empty_graph only.txns runs.0.results runs.0.last ran, tt);
-      commits = omega (arith, count_commits schema only.txns runs.0.results runs.0.last ran);
-    })
-finished schema (first ∷ second ∷ others) turns results built runs = absurd runs
+begun : (script : Script) → IsRunTo script [] empty_moment
+begun script = record {
+  history = record {
+    graphs = λ n. empty_graph;
+    begins = refl;
+    ends = refl;
+    numbers = IsPermutation-refl _;
+    right = λ k d lt. absurd (omega (arith, lt));
+    order = λ i j d lt within. absurd (omega (arith, within));
+  };
+  number = refl;
+  serial = λ i j d lt within. absurd (omega (arith, within));
+}
 
 -- what is printed of a job that ran is its report
-pub report_of : (text : List ℕ) (input : TryInput) (results : List (List TxnResult)) (commits : ℕ) (output : List ℕ) → Says text input → RunsJob input.schema input.job.clients results
-    → commits ≡ count_txns input.job.clients → output ≡ report input.job results (plain_tail commits) → IsReportOf text output
-report_of text input results commits output says runs counted printed =
-    let done : IsFinished input results = finished input.schema input.job.clients input.job.turns results says.job.clients runs in
+pub report_of : (text : List ℕ) (input : TryInput) (results : List (List TxnResult)) (after : Moment) (output : List ℕ) → Says text input
+    → job_outcomes input.schema empty_moment input.job.clients ≡ record { results = results; after = after }
+    → output ≡ report input.job results (plain_tail after.number) → IsReportOf text output
+report_of text input results after output says gives printed =
+    let outcomes : Outcomes (List (List TxnResult)) = job_outcomes input.schema empty_moment input.job.clients in
+    let found : outcomes.results ≡ results = ap (λ (o : Outcomes (List (List TxnResult))). o.results) gives in
+    let reached : outcomes.after ≡ after = ap (λ (o : Outcomes (List (List TxnResult))). o.after) gives in
+    let ran : IsRunTo (script_of input) (committed_of results) after =
+    subst (λ (o : Outcomes (List (List TxnResult))). IsRunTo (script_of input) (committed_of o.results) o.after) gives
+    (job_more (script_of input) 0 [] empty_moment input.job.clients (begun (script_of input)) (named_in input) (All-nil _)) in
+    let ends : JobEnds input.job.clients results = subst (JobEnds input.job.clients) found (job_ends input.schema empty_moment input.job.clients) in
+    let counted : after.number ≡ length (updates (committed_of results)) = omega (arith, ran.number) in
     record {
       input = input;
       says = says;
       results = results;
-      last = done.last;
-      history = done.history;
-      everyone = done.everyone_there;
-      one_each = done.one_each;
-      at_once = done.each_at_once;
-      printed = printed ∙ ap (λ (n : ℕ). report input.job results (plain_tail n)) (counted ∙ sym done.commits);
+      last = after.graph;
+      history = ran.history;
+      everyone = everyone input results ends;
+      serial = ran.serial;
+      aborted = ends.aborted;
+      at_once = ends.at_once;
+      printed = printed ∙ ap (λ (n : ℕ). report input.job results (plain_tail n)) counted;
     }
 
--- ---- a job that a text says can run
+-- ---- a job that a text says can be run
 
-outcomes_are_some : (schema : Schema) (number : ℕ) (graph : Graph) (txns : List Txn) → HasIntMembers schema → AllByRecursion IsBuiltTxn txns → IsSome (outcomes_from schema number graph txns)
-outcomes_are_some schema number graph [] ints built = refl
-outcomes_are_some schema number graph (txn ∷ txns) ints built =
-    IsSome-and_then (λ (ran : Ran). option_map (with_before (Commit (number + 1) 1 ran.replies ∷ [])) (outcomes_from schema (number + 1) ran.graph txns)) (transaction schema txn graph)
-    (transaction_is_some schema txn graph ints built.0.commands)
-    (λ ran. IsSome-map _ (outcomes_from schema (number + 1) ran.graph txns) (outcomes_are_some schema (number + 1) ran.graph txns ints built.1))
-
-some_is_not_none : {A : Type 0} (o : Option A) → IsSome o → o ≡ None → ⊥
-some_is_not_none None some none = cc
-some_is_not_none (Some x) some none = cc
-
-int_members : (types : List TypeDef) → AreBuiltTypes types → HasIntMembers (record { types = types })
-int_members [] built = absurd built
-int_members (only ∷ []) built = (built, tt)
-int_members (first ∷ second ∷ others) built = absurd built
-
-runs : (schema : Schema) (clients : List JobClient) → HasIntMembers schema → AreBuiltClients clients → CannotRun schema clients → ⊥
-runs schema [] ints built stuck = stuck
-runs schema (only ∷ []) ints built stuck = some_is_not_none (outcomes_from schema 0 empty_graph only.txns) (outcomes_are_some schema 0 empty_graph only.txns ints built.txns) stuck
-runs schema (first ∷ second ∷ others) ints built stuck = built
-
-pub can_run : (text : List ℕ) (input : TryInput) → Says text input → CannotRun input.schema input.job.clients → ⊥
-can_run text input says stuck = runs input.schema input.job.clients (int_members input.schema.types says.types) says.job.clients stuck
-
--- ---- loops and matches of the code
-
--- a run that has come to its end
-pub finished_run : (schema : Schema) (number : ℕ) (graph : Graph) (txns : List Txn) (n : ℕ) (results : List TxnResult) (total : Option Outcomes) → length txns ≤ n
-    → option_map (with_before results) (outcomes_from schema number graph (drop n txns)) ≡ total → total ≡ Some (record { results = results; last = graph })
-finished_run schema number graph txns n results total past runs =
-    let none : drop n txns ≡ [] = drop_all n txns past in
-    sym runs ∙ ap (λ (left : List Txn). option_map (with_before results) (outcomes_from schema number graph left)) none
-    ∙ ap (λ (rs : List TxnResult). Some (record { results = rs; last = graph })) (append-nil results)
-
--- a job of one client ran as the client did
-pub one_client_ran : (schema : Schema) (clients : List JobClient) (only : JobClient) (txns : List Txn) (outcomes : Outcomes) (results : List (List TxnResult)) → length clients ≡ 1 → only ≡ get_or clients 0 only → txns ≡ only.txns
-    → outcomes_from schema 0 empty_graph txns ≡ Some outcomes → results ≡ outcomes.results ∷ [] → RunsJob schema clients results
-one_client_ran schema [] only txns outcomes results one is same ran gives = absurd (omega arith)
-one_client_ran schema (x ∷ []) only txns outcomes results one is same ran gives =
-    (outcomes, ap (λ (ts : List Txn). outcomes_from schema 0 empty_graph ts) (sym (same ∙ ap (λ (c : JobClient). c.txns) is)) ∙ ran, gives)
-one_client_ran schema (x ∷ y ∷ clients) only txns outcomes results one is same ran gives = absurd (omega arith)
+pub says_built : (text : List ℕ) (input : TryInput) → Says text input → AreBuilt input.job.clients
+says_built text input says = says.job.built

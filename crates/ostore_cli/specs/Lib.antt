@@ -2,6 +2,7 @@
 pub mod Commands
 pub mod Streams
 pub mod Promise
+pub mod LawsOfReports
 -- what only ties private code
 pub mod inside
 pub mod Plain

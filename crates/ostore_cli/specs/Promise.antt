@@ -1,13 +1,15 @@
 -- What a top call promises: at each status what was the case, what was read and what was printed.
-use Rattle.std.specs.Prelude.{◌≡◌, ◌≢◌, ◌⊎◌, ◌↔◌, ℕ, List, length, map, codes, Option, Some, None, IfSome}
+use Rattle.std.specs.Prelude.{◌≡◌, ◌≢◌, ◌⊎◌, ◌↔◌, ℕ, Bool, true, false, List, length, map, codes, Option, Some, None, IfSome}
 use Rattle.std.specs.List.{AllByRecursion}
 use Rattle.ostore_base.specs.Faults.{Rose}
 use Rattle.ostore_base.specs.Streams.{appended}
 use Rattle.ostore_graph_model.specs.Graph.{Graph, empty_graph}
-use Rattle.ostore_graph_model.specs.History.{IsLegalHistory, EveryoneStands, updates}
+use Rattle.ostore_graph_model.specs.History.{IsLegalHistory, AllCommitted, IsSerial, updates}
 use Rattle.ostore_job_text.specs.declared.input.TryInput.{TryInput}
 use Rattle.ostore_job_text.specs.declared.results.Tail.{Tail}
+use Rattle.ostore_job_text.specs.declared.job.JobClient.{JobClient}
 use Rattle.ostore_job_text.specs.declared.results.TxnResult.{TxnResult}
+use Rattle.ostore_job_text.specs.declared.results.TxnResult.TheVariants.{Commit, Read, Abort, GaveUp, NotRun}
 use Rattle.ostore_job_text.specs.Report.{report}
 use Rattle.ostore_job_text.specs.Results.{script_of, committed_of, EndedAtOnce}
 use Rattle.ostore_job_text.specs.FaultLine.{refusal_line}
@@ -52,17 +54,31 @@ pub record IsReadThrough (source source_after : End) : Type 0 where
 abbrev pub plain_tail : ℕ → Tail
 plain_tail commits = record { disk_fault_after = None; commits = commits; fetches = None }
 
--- The output is the report of what a text asks for: of results, one for each transaction, whose
--- commits are a legal history from the empty graph at number 0, in which every transaction stands.
+-- the transaction was aborted by its script
+abbrev pub was_aborted : TxnResult → Bool
+was_aborted (Commit number tries replies) = false
+was_aborted (Read number tries replies) = false
+was_aborted (Abort tries) = true
+was_aborted (GaveUp tries cause) = false
+was_aborted NotRun = false
+
+-- each transaction has one result, and Abort stands for exactly those that their script aborts
+abbrev pub AbortsAsScripted : List JobClient → List (List TxnResult) → Type 0
+AbortsAsScripted clients results =
+    map (map was_aborted) results ≡ map (λ client. map (λ txn. txn.aborts) client.txns) clients
+
+-- The output is the report of what a text asks for. The transactions that its results say have
+-- committed are a legal history from the empty graph at number 0. They ran one after the other, client
+-- by client, and every transaction that its script doesn't abort stands among them.
 pub record IsReportOf (text output : List ℕ) : Type 0 where
   pub input : TryInput
   pub says : Says text input
   pub results : List (List TxnResult)
   pub last : Graph
   pub history : IsLegalHistory (script_of input) 0 empty_graph (committed_of results) last
-  pub everyone : EveryoneStands (script_of input) (committed_of results)
-  pub one_each : map (λ outcomes. length outcomes) results
-      ≡ map (λ client. length client.txns) input.job.clients
+  pub everyone : AllCommitted (script_of input) (committed_of results)
+  pub serial : IsSerial (committed_of results)
+  pub aborted : AbortsAsScripted input.job.clients results
   pub at_once : AllByRecursion (AllByRecursion EndedAtOnce) results
   pub printed : output
       ≡ report input.job results (plain_tail (length (updates (committed_of results))))

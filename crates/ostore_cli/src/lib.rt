@@ -3,6 +3,7 @@
 #![tactic(auto)]
 
 mod answers;
+mod laws;
 mod outcome;
 mod plain;
 mod streams;
@@ -10,6 +11,7 @@ mod top;
 mod trying;
 mod words;
 
+pub use laws::one_report;
 pub use ostore_address_space::{High, Low, Mapper, Mixed};
 pub use outcome::{Gate, OpenGate, Outcome};
 pub use top::{ostore, ostore_turns};

@@ -1,6 +1,8 @@
 //! Runs of the top calls over the outside in memory.
 
 mod ample;
+mod clients;
+mod clients;
 mod runs;
 mod slow;
 
@@ -38,15 +40,14 @@ fn texts_and_their_reports(rt: HostRuntime) -> Result<(), Fail> {
 fn refused_texts(rt: HostRuntime) -> Result<(), Fail> {
     for text in [
         "",
-        "type Part\nid int\njob\nclient a\nclient b\n",
-        "type Part\nid int\njob\nclient a tries 2\n",
-        "type Part\nid int\njob\nclient a\nread\ncommit\n",
-        "type Part\nid int\njob\nclient a\nbegin\nabort\n",
+        "type Part\nid int\njob\nclient a\nclient a\n",
+        "type Part\nid int\njob\nclient a tries 0\n",
+        "type Part\nid int\njob\nclient a\nbegin\nfind $p 1.1\ncommit\n",
         "type Part\nnext ref Part\njob\n",
         "type Part\ntype Box\njob\n",
         "type Part\nid int\njob\nclient a\nbegin\n",
         "type Part\nid int\njob\nclient a\nbegin\nnew $p Part 0\ncommit\n",
-        "type Part\nid int\njob\nclient a\nturns a\n",
+        "type Part\nid int\njob\nclient a\nturns b\n",
     ] {
         expect_run(&rt, rt.alloc(), text, 3, "text refused\n")?;
     }

@@ -37,25 +37,16 @@ IsBuiltCommand (Get object member) = Unit {0}
 IsBuiltCommand (Set object member (operands.Int value)) = Unit {0}
 IsBuiltCommand other = ⊥
 
--- the transaction is an update that commits
-pub record IsBuiltTxn (txn : Txn) : Type 0 where
-  pub update : txn.update ≡ true
-  pub commits : txn.aborts ≡ false
-  pub commands : AllByRecursion IsBuiltCommand txn.commands
+-- all commands of the transaction run, whether it updates or reads, and whether it commits or aborts
+abbrev pub IsBuiltTxn : Txn → Type 0
+IsBuiltTxn txn = AllByRecursion IsBuiltCommand txn.commands
 
--- each option is at its default
-abbrev pub HasDefaults : JobClient → Type 0
-HasDefaults client = (client.tries ≡ default_tries) × (client.cache ≡ default_cache) × (client.frames ≡ default_frames)
+abbrev pub IsBuiltClient : JobClient → Type 0
+IsBuiltClient client = AllByRecursion IsBuiltTxn client.txns
 
-pub record IsBuiltClient (client : JobClient) : Type 0 where
-  pub options : HasDefaults client
-  pub txns : AllByRecursion IsBuiltTxn client.txns
-
--- there is at most one client
+-- any number of clients, with any options
 abbrev pub AreBuiltClients : List JobClient → Type 0
-AreBuiltClients [] = Unit {0}
-AreBuiltClients (only ∷ []) = IsBuiltClient only
-AreBuiltClients (first ∷ second ∷ others) = ⊥
+AreBuiltClients clients = AllByRecursion IsBuiltClient clients
 
 -- ---- the whole text
 
@@ -70,11 +61,10 @@ schema_part text = (parts_at (parting_of (codes "job") text) text).0
 abbrev pub job_start : List ℕ → ℕ
 job_start text = (parts_at (parting_of (codes "job") text) text).1
 
--- the text spells this job from a place on, and it is built
+-- the text spells this job from a place on, and it is built; its turns are passed over
 pub record SaysJob (start : ℕ) (text : List ℕ) (job : Job) : Type 0 where
   pub read : parsed_from start text ≡ Ok job
-  pub clients : AreBuiltClients job.clients
-  pub no_turns : job.turns ≡ []
+  pub built : AreBuiltClients job.clients
 
 -- the text says this input, which is built
 pub record Says (text : List ℕ) (input : TryInput) : Type 0 where

@@ -1,45 +1,76 @@
--- What became of transactions, one after the other.
-use Rattle.std.specs.Prelude.{◌≡◌, ℕ, ◌+◌, List, [], ◌∷◌, ◌++◌, length, sum_by, Option, Some, None, option_and_then}
-use Rattle.std.specs.Option.{option_map}
+-- What becomes of transactions that run one after the other.
+use Rattle.std.specs.Prelude.{◌≡◌, ℕ, ◌+◌, Bool, true, false, if◌then◌else◌, List, [], ◌∷◌, ◌++◌}
+use Rattle.std.specs.List.{AllByRecursion}
 use Rattle.ostore_schema_layout.specs.declared.schema.Schema.{Schema}
 use Rattle.ostore_graph_model.specs.declared.commands.Txn.{Txn}
 use Rattle.ostore_graph_model.specs.Graph.{Graph, empty_graph}
-use Rattle.ostore_graph_model.specs.Transaction.{transaction}
+use Rattle.ostore_graph_model.specs.Transaction.{Ran, transaction}
 use Rattle.ostore_job_text.specs.declared.job.JobClient.{JobClient}
 use Rattle.ostore_job_text.specs.declared.results.TxnResult.{TxnResult}
-use Rattle.ostore_job_text.specs.declared.results.TxnResult.TheVariants.{Commit}
+use Rattle.ostore_job_text.specs.declared.results.TxnResult.TheVariants.{Commit, Read, Abort}
+use Rattle.ostore_job_text.specs.Spelling.{IsBuiltCommand}
+use Rattle.ostore_cli.specs.Plain.{graph_of}
+use Rattle.ostore_cli.specs.declared.trying.running.Reached.{Reached}
 
--- what became of transactions, and the graph after them
-pub record Outcomes : Type 0 where
-  pub results : List TxnResult
-  pub last : Graph
+-- the number of the last update, and the graph of that number
+pub record Moment : Type 0 where
+  pub number : ℕ
+  pub graph : Graph
 
-abbrev pub with_before : List TxnResult → Outcomes → Outcomes
-with_before before outcomes = record { results = before ++ outcomes.results; last = outcomes.last }
+abbrev pub moment_of : Reached → Moment
+moment_of reached = record { number = reached.number; graph = graph_of reached.graph }
 
--- each transaction commits at its first try, with the next number
-abbrev pub outcomes_from : Schema → ℕ → Graph → List Txn → Option Outcomes
-outcomes_from schema number graph [] = Some (record { results = []; last = graph })
-outcomes_from schema number graph (txn ∷ txns) =
-    option_and_then
-    (λ ran. option_map (with_before (Commit (number + 1) 1 ran.replies ∷ []))
-    (outcomes_from schema (number + 1) ran.graph txns))
-    (transaction schema txn graph)
+abbrev pub empty_moment : Moment
+empty_moment = record { number = 0; graph = empty_graph }
 
--- the results of a job, one list for each client: each transaction ran once, from an empty graph
-abbrev pub RunsJob : Schema → List JobClient → List (List TxnResult) → Type 0
-RunsJob schema [] results = results ≡ []
-RunsJob schema (only ∷ []) results =
-    (outcomes : Outcomes) × (outcomes_from schema 0 empty_graph only.txns ≡ Some outcomes)
-    × (results ≡ outcomes.results ∷ [])
-RunsJob schema (first ∷ second ∷ others) results = ⊥
+-- what becomes of transactions, of one or of the lists of several clients, and what is reached then
+pub record Outcomes (R : Type 0) : Type 0 where
+  pub results : R
+  pub after : Moment
 
--- the job is none that runs
-abbrev pub CannotRun : Schema → List JobClient → Type 0
-CannotRun schema [] = ⊥
-CannotRun schema (only ∷ []) = outcomes_from schema 0 empty_graph only.txns ≡ None
-CannotRun schema (first ∷ second ∷ others) = Unit {0}
+-- ---- what can be run
 
--- how many transactions a job has
-abbrev pub count_txns : List JobClient → ℕ
-count_txns clients = sum_by (λ client. length client.txns) clients
+abbrev pub AreBuiltTxns : List Txn → Type 0
+AreBuiltTxns txns = AllByRecursion (λ txn. AllByRecursion IsBuiltCommand txn.commands) txns
+
+-- all commands of a job are of those that are built
+abbrev pub AreBuilt : List JobClient → Type 0
+AreBuilt clients = AllByRecursion (λ client. AreBuiltTxns client.txns) clients
+
+-- ---- one transaction
+
+-- an update commits with the next number, and a read with that of the last update
+abbrev pub commits_as : Bool → ℕ → Ran → Outcomes TxnResult
+commits_as true number ran = record {
+  results = Commit (number + 1) 1 ran.replies;
+  after = record { number = number + 1; graph = ran.graph };
+}
+commits_as false number ran = record {
+  results = Read number 1 ran.replies;
+  after = record { number = number; graph = ran.graph };
+}
+
+-- one that its script aborts leaves all as it was
+abbrev pub txn_outcome : Schema → Moment → Txn → Outcomes TxnResult
+txn_outcome schema from txn =
+    if txn.aborts then record { results = Abort 1; after = from }
+    else commits_as txn.update from.number (transaction schema txn from.graph)
+
+-- ---- one after the other
+
+abbrev pub with_before : {R : Type 0} → List R → Outcomes (List R) → Outcomes (List R)
+with_before before outcomes = record { results = before ++ outcomes.results; after = outcomes.after }
+
+-- the transactions of a client
+abbrev pub client_outcomes : Schema → Moment → List Txn → Outcomes (List TxnResult)
+client_outcomes schema from [] = record { results = []; after = from }
+client_outcomes schema from (txn ∷ txns) =
+    let first = txn_outcome schema from txn in
+    with_before (first.results ∷ []) (client_outcomes schema first.after txns)
+
+-- the clients of a job
+abbrev pub job_outcomes : Schema → Moment → List JobClient → Outcomes (List (List TxnResult))
+job_outcomes schema from [] = record { results = []; after = from }
+job_outcomes schema from (client ∷ clients) =
+    let first = client_outcomes schema from client.txns in
+    with_before (first.results ∷ []) (job_outcomes schema first.after clients)

@@ -2,9 +2,9 @@
 
 ghost use Rattle.std.specs.Prelude.{◌↔◌, IsTrue};
 ghost use Rattle.std.specs.List.{AllByRecursion};
-ghost use Rattle.ostore_job_text.specs.Spelling.{AreBuiltTypes, IsIntMember, IsBuiltCommand, IsBuiltTxn, HasDefaults, IsBuiltClient, AreBuiltClients};
+ghost use Rattle.ostore_job_text.specs.Spelling.{AreBuiltTypes, IsIntMember, IsBuiltCommand, IsBuiltTxn, IsBuiltClient, AreBuiltClients};
 
-use crate::job::{DEFAULT_CACHE, DEFAULT_FRAMES, DEFAULT_TRIES, JobClient};
+use crate::job::JobClient;
 use ostore_graph_model::{Command, Operand, Txn};
 use ostore_schema_layout::{MemberDef, MemberKind, TypeDef};
 
@@ -50,13 +50,10 @@ fn are_built_commands(commands: &[Command]) -> bool
     commands.iter().all(is_built_command)
 }
 
-/// Whether the transaction is an update that commits, and all of its commands run.
+/// Whether all commands of the transaction run.
 fn is_built_txn(txn: &Txn) -> bool
     ensures { IsTrue result ↔ IsBuiltTxn txn.now }
 {
-    if !txn.update || txn.aborts {
-        return false;
-    }
     are_built_commands(txn.commands.items())
 }
 
@@ -67,32 +64,16 @@ fn are_built_txns(txns: &[Txn]) -> bool
     txns.iter().all(is_built_txn)
 }
 
-/// Whether each option is at its default.
-fn has_defaults(client: &JobClient) -> bool
-    ensures { IsTrue result ↔ HasDefaults client.now }
-{
-    client.tries == DEFAULT_TRIES
-        && client.cache == DEFAULT_CACHE
-        && client.frames == DEFAULT_FRAMES
-}
-
 /// Whether the client is built.
 fn is_built_client(client: &JobClient) -> bool
     ensures { IsTrue result ↔ IsBuiltClient client.now }
 {
-    if !has_defaults(client) {
-        return false;
-    }
     are_built_txns(client.txns.items())
 }
 
-/// Whether there is at most one client, and it is built.
+/// Whether all clients are built.
 pub(super) fn are_built_clients(clients: &[JobClient]) -> bool
     ensures { IsTrue result ↔ AreBuiltClients clients.now }
 {
-    match clients {
-        [] => true,
-        [only] => is_built_client(only),
-        _ => false,
-    }
+    clients.iter().all(is_built_client)
 }

@@ -45,7 +45,7 @@ fn read_built_job(alloc: Global, text: &[u8], start: usize) -> Result<Job, JobRe
         Err(JobFault::OutOfMemory) => Err(JobRefused::OutOfMemory),
         Err(_) => Err(JobRefused::Refused),
         Ok(job) => {
-            if !are_built_clients(job.clients.items()) || !job.turns.is_empty() {
+            if !are_built_clients(job.clients.items()) {
                 return Err(JobRefused::Refused);
             }
             Ok(job)

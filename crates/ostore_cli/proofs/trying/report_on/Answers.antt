@@ -1,16 +1,14 @@
-use Rattle.std.proofs.Common.{List, ap, subst, ◌∙◌}
+use Rattle.std.proofs.Common.{List, sym, subst, ◌≡◌}
 use Rattle.ostore_job_text.specs.declared.job.JobClient.{JobClient}
-use Rattle.ostore_cli.specs.inside.Outcomes.{RunsJob, CannotRun, count_txns}
-use Rattle.ostore_cli.proofs.ReportLaws.{report_of, can_run}
+use Rattle.ostore_cli.specs.inside.Outcomes.{moment_of, empty_moment, AreBuilt, job_outcomes}
+use Rattle.ostore_cli.proofs.ReportLaws.{report_of}
 use Rattle.ostore_cli.proofs.trying.report_on.Goals as goal
 
-pub returns-in-Err-NotBuilt-clause-refused : goal.returns-in-Err-NotBuilt-clause-refused
-returns-in-Err-NotBuilt-clause-refused c = λ e text says.
-    can_run text c.args.input.now says (subst (λ (clients : List JobClient). CannotRun c.args.input.now.schema clients) c.items.ensures (c.in-Err-NotBuilt.ensures.not_built cc))
+pub run_job-requires : goal.run_job-requires
+run_job-requires c = subst AreBuilt (sym c.items.ensures) c.requires
 
-pub returns-in-Ok-print_report-clause-report : goal.returns-in-Ok-print_report-clause-report
-returns-in-Ok-print_report-clause-report c = λ text says.
-    report_of text c.args.input.now c.in-Ok.ran.results c.in-Ok.ran.commits c.in-Ok-print_report.report says
-    (subst (λ (clients : List JobClient). RunsJob c.args.input.now.schema clients c.in-Ok.ran.results) c.items.ensures c.in-Ok.ensures.runs)
-    (c.in-Ok.ensures.commits ∙ ap count_txns c.items.ensures)
-    c.in-Ok-print_report.ensures
+pub returns : goal.returns
+returns c = λ text says.
+    report_of text c.args.input.now c.in_ok-ran.ran.results (moment_of c.in_ok-ran.ran.reached) c.in_ok-report.report says
+    (subst (λ (clients : List JobClient). job_outcomes c.args.input.now.schema empty_moment clients ≡ record { results = c.in_ok-ran.ran.results; after = moment_of c.in_ok-ran.ran.reached }) c.items.ensures c.in_ok-ran.ensures)
+    c.in_ok-report.ensures

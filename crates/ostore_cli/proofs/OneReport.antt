@@ -1,0 +1,39 @@
+-- Two reports of one text are equal.
+use Rattle.std.proofs.Common.{◌≡◌, ℕ, List, length, map, Some, refl, sym, ap, subst, ◌∙◌}
+use Rattle.std.specs.Prelude.{Result, Ok}
+use Rattle.ostore_schema_layout.proofs.parsed.ParsedLaws.{spells_parsed}
+use Rattle.ostore_graph_model.specs.History.{IsLegalHistory, IsSerial, updates}
+use Rattle.ostore_graph_model.specs.Graph.{Graph, empty_graph}
+use Rattle.ostore_graph_model.proofs.SerialHistories.{serial_is_one}
+use Rattle.ostore_job_text.specs.declared.input.TryInput.{TryInput}
+use Rattle.ostore_job_text.specs.declared.results.TxnResult.{TxnResult}
+use Rattle.ostore_job_text.specs.Report.{report}
+use Rattle.ostore_job_text.specs.Results.{script_of, committed_of}
+use Rattle.ostore_job_text.specs.Spelling.{Says, schema_part}
+use Rattle.ostore_cli.specs.Promise.{IsReportOf, plain_tail, was_aborted}
+use Rattle.ostore_cli.specs.LawsOfReports.{LawOfOneReport}
+use Rattle.ostore_cli.proofs.ResultLaws.{same_names, same_results}
+
+-- ---- a text says one input
+
+ok_is : {E T : Type 0} → (x y : T) → ◌≡◌ {A = Result T E} (Ok x) (Ok y) → x ≡ y
+ok_is x y e = cc
+
+says_one : (text : List ℕ) (one other : TryInput) → Says text one → Says text other → one ≡ other
+says_one text one other a b =
+    let schema : one.schema ≡ other.schema = ok_is one.schema other.schema (sym (spells_parsed (schema_part text) one.schema a.schema) ∙ spells_parsed (schema_part text) other.schema b.schema) in
+    let job : one.job ≡ other.job = ok_is one.job other.job (sym a.job.read ∙ b.job.read) in
+    λ i. record { schema = schema i; job = job i }
+
+-- ---- an input has one report
+
+pub one_report : LawOfOneReport
+one_report text output other a b =
+    let same : a.input ≡ b.input = says_one text a.input b.input a.says b.says in
+    let aborted : map (map was_aborted) a.results ≡ map (map was_aborted) b.results =
+    a.aborted ∙ ap (λ (input : TryInput). map (λ client. map (λ txn. txn.aborts) client.txns) input.job.clients) same ∙ sym b.aborted in
+    let committed = serial_is_one (script_of a.input) 0 empty_graph a.last b.last (committed_of a.results) (committed_of b.results) a.history
+    (subst (λ (input : TryInput). IsLegalHistory (script_of input) 0 empty_graph (committed_of b.results) b.last) (sym same) b.history) a.serial b.serial
+    (same_names 0 a.results b.results aborted a.at_once b.at_once) in
+    let results : a.results ≡ b.results = same_results a.results b.results aborted a.at_once b.at_once committed.0 in
+    a.printed ∙ (λ i. report (same i).job (results i) (plain_tail (length (updates (committed_of (results i)))))) ∙ sym b.printed

@@ -1,0 +1,9 @@
+//! Laws of the promise, each the contract of a function that does nothing.
+
+ghost use Rattle.ostore_cli.specs.LawsOfReports.{LawOfOneReport};
+
+/// Two reports of one text are equal: the bytes that `try` prints at status 0 are a function of its
+/// text.
+pub fn one_report()
+    ensures { LawOfOneReport }
+{}
