@@ -9,6 +9,7 @@ pub mod GrowthLaws
 pub mod Computing
 pub mod Rows
 pub mod LiveLaws
+pub mod OnePartnerLaws
 pub mod AddLaw
 pub mod AddressLaws
 pub mod AllocationLaws

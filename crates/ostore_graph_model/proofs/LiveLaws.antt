@@ -67,13 +67,13 @@ module _ {K X : Type 0} {R : K → K → Ordering} (o : IsTotalOrder R) (same : 
   retained : (m : maps.FinMap R X) (p : K → Bool) (q : K) → maps.get (maps.retain_keys m p) q ≡ cond (p q) (maps.get m q) None
   retained m p q = maps.get-retain_keys m p q (λ x e. ap p (sym (same q x e)))
 
-  in_retained : (m : maps.FinMap R X) (p : K → Bool) (q : K) → maps.contains_key (maps.retain_keys m p) q ≡ true → (p q ≡ true) × (maps.contains_key m q ≡ true)
+  pub in_retained : (m : maps.FinMap R X) (p : K → Bool) (q : K) → maps.contains_key (maps.retain_keys m p) q ≡ true → (p q ≡ true) × (maps.contains_key m q ≡ true)
   in_retained m p q there = kept_some (p q) (maps.get m q) (sym (ap is_some (retained m p q)) ∙ there)
 
   value_retained : (m : maps.FinMap R X) (p : K → Bool) (q : K) (x : X) → maps.get (maps.retain_keys m p) q ≡ Some x → (p q ≡ true) × (maps.get m q ≡ Some x)
   value_retained m p q x there = kept_value (p q) (maps.get m q) x (sym (retained m p q) ∙ there)
 
-  in_removed : (m : maps.FinMap R X) (k q : K) → maps.contains_key (maps.remove m k) q ≡ true → maps.contains_key m q ≡ true
+  pub in_removed : (m : maps.FinMap R X) (k q : K) → maps.contains_key (maps.remove m k) q ≡ true → maps.contains_key m q ≡ true
   in_removed m k q there = (other_some (eq_by_cmp R q k) (maps.get m q) (sym (ap is_some (maps.get-remove o m k q)) ∙ there)).1
 
   value_removed : (m : maps.FinMap R X) (k q : K) (x : X) → maps.get (maps.remove m k) q ≡ Some x → maps.get m q ≡ Some x
@@ -88,7 +88,7 @@ module _ {K X : Type 0} {R : K → K → Ordering} (o : IsTotalOrder R) (same : 
     by_test true tie there = subst P (sym (tied_same same q k tie)) here
     by_test false apart there = was there
 
-    new_or_old : maps.contains_key (maps.insert m k v) q ≡ true → P q
+    pub new_or_old : maps.contains_key (maps.insert m k v) q ≡ true → P q
     new_or_old there = by_test (eq_by_cmp R q k) refl (sym (ap is_some (maps.get-insert o m k v q)) ∙ there)
 
   module _ (P : K → X → Type 0) (m : maps.FinMap R X) (k : K) (v : X) (q : K) (x : X) (here : P k v) (was : maps.get m q ≡ Some x → P q x) where
@@ -272,7 +272,7 @@ owner_of schema x ty None at e = absurd cc
 owner_of schema x ty (Some n) at e = owner_of_def x (record { ty = ty; member = n }) (def_of schema (record { ty = ty; member = n })) at e
 
 -- where nothing of a task refuses it, its effect has P
-abbrev TaskMay : (Stepped → Type 0) → Vars → Task → Type 0
+abbrev pub TaskMay : (Stepped → Type 0) → Vars → Task → Type 0
 TaskMay P vars (Task.on_graph deed) = first_refusal deed.tests ≡ None → P deed.gives
 TaskMay P vars (Task.on_member object member kind deed) = (at : LiveMember) → bound_to vars object ≡ at.owner → first_refusal (deed at).tests ≡ None → P (deed at).gives
 
@@ -295,7 +295,7 @@ module _ (P : Stepped → Type 0) (schema : Schema) (vars : Vars) (graph : Graph
   unless None effect has = has refl
   unless (Some refusal) effect has = no refusal
 
-  step_may : (update : Bool) (command : Command)
+  pub step_may : (update : Bool) (command : Command)
       → (list_any (is_dangling schema vars graph) (line_of schema vars graph command).reads ≡ false → TaskMay P vars (line_of schema vars graph command).task)
       → P (step schema update vars graph command)
   step_may update command may =

@@ -42,7 +42,7 @@ lawful_at schema lawful ty number def e =
     subst (λ t. IsLawfulMember schema t number def) (sym s.number_is)
     (lawful_member schema (record { 0 = s.place + 1 }) at.ty.members (lawful_type schema lawful s.place at.ty s.there).members number.0 def at.there)
 
-two_sided : (schema : Schema) → IsLawful schema → (ty : TypeNo) (number : MemberNo) (def : MemberDef) (inverse : Inverse) → member_at schema ty number ≡ Some def → def.inverse ≡ Some inverse → IsTwoSided schema ty number def.kind inverse
+pub two_sided : (schema : Schema) → IsLawful schema → (ty : TypeNo) (number : MemberNo) (def : MemberDef) (inverse : Inverse) → member_at schema ty number ≡ Some def → def.inverse ≡ Some inverse → IsTwoSided schema ty number def.kind inverse
 two_sided schema lawful ty number def inverse e sided = subst (λ i. IsLawfulInverse schema ty number def.kind i) sided (lawful_at schema lawful ty number def e).inverse
 
 target_type : (kind : MemberKind) (ty : TypeNo) → link_target kind ≡ Some ty → item_type kind ≡ ty.0

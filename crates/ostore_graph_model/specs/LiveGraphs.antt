@@ -2,13 +2,14 @@
 use Rattle.std.specs.Prelude.{◌≡◌, ◌≢◌, Bool, true, List, [], Some}
 use Rattle.std.specs.FinMap as maps
 use Rattle.ostore_schema_layout.specs.declared.schema.Schema.{Schema}
+use Rattle.ostore_schema_layout.specs.Lawful.{IsLawful}
 use Rattle.ostore_graph_model.specs.declared.values.Name.{Name}
 use Rattle.ostore_graph_model.specs.declared.values.Reply.{Reply}
 use Rattle.ostore_graph_model.specs.declared.commands.Command.{Command}
 use Rattle.ostore_graph_model.specs.Sets as sets
-use Rattle.ostore_graph_model.specs.Orders.{Pair, ObjectMember, PathIndex}
+use Rattle.ostore_graph_model.specs.Orders.{TypeMember, Pair, ObjectMember, PathIndex}
 use Rattle.ostore_graph_model.specs.Graph.{Graph, Dictionary, empty_graph, is_drawn, is_live}
-use Rattle.ostore_graph_model.specs.Links.{is_two_sided}
+use Rattle.ostore_graph_model.specs.Links.{is_two_sided, is_ref_member, pair_at}
 use Rattle.ostore_graph_model.specs.Deeds.{Vars}
 use Rattle.ostore_graph_model.specs.Step.{Steps}
 
@@ -32,6 +33,22 @@ LawOfLiveGraphs =
     → Steps schema update vars graph command reply vars_after graph_after
     → HoldsLive schema graph_after
 
--- it holds of the graph of a fresh database
+-- a reference has one partner at most
+abbrev pub HasOnePartner : Schema → Graph → Type 0
+HasOnePartner schema graph =
+    (member : TypeMember) (x y z : Name) → is_ref_member schema member ≡ true
+    → sets.contains graph.pairs (pair_at schema member x y) ≡ true → sets.contains graph.pairs (pair_at schema member x z) ≡ true
+    → y ≡ z
+
+-- commands keep that too, in a lawful schema
+abbrev pub LawOfOnePartner : Type 0
+LawOfOnePartner =
+    (schema : Schema) → IsLawful schema
+    → (update : Bool) (vars vars_after : Vars) (graph graph_after : Graph) (command : Command) (reply : Reply)
+    → HasOnePartner schema graph
+    → Steps schema update vars graph command reply vars_after graph_after
+    → HasOnePartner schema graph_after
+
+-- the first holds of the graph of a fresh database
 abbrev pub LawOfEmptyGraph : Type 0
 LawOfEmptyGraph = (schema : Schema) → HoldsLive schema empty_graph

@@ -4,7 +4,7 @@
 ghost use Rattle.ostore_graph_model.specs.LawsOfSteps.{LawOfRefusals, LawOfReads, LawOfReadTransactions};
 ghost use Rattle.ostore_graph_model.specs.LawsOfSteps.{LawOfNewNames, LawOfDrawnNames, LawOfAnswers};
 ghost use Rattle.ostore_graph_model.specs.LawsOfSteps.{LawOfDeletedNames};
-ghost use Rattle.ostore_graph_model.specs.LiveGraphs.{LawOfLiveGraphs, LawOfEmptyGraph};
+ghost use Rattle.ostore_graph_model.specs.LiveGraphs.{LawOfLiveGraphs, LawOfOnePartner, LawOfEmptyGraph};
 ghost use Rattle.ostore_graph_model.specs.Growth.{LawOfGrowth};
 
 /// A command that is refused changes nothing, variables included.
@@ -50,6 +50,11 @@ pub fn answers_are_replies()
 /// Commands keep it that all that a graph holds is of live objects, and that nothing empty is held.
 pub fn graph_stays_live()
     ensures { LawOfLiveGraphs }
+{}
+
+/// Commands keep it that a reference has one partner at most, in a lawful schema.
+pub fn reference_keeps_one_partner()
+    ensures { LawOfOnePartner }
 {}
 
 /// It holds of the graph of a fresh database.

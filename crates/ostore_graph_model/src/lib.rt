@@ -38,7 +38,7 @@ pub use laws_of_pages::{
 pub use laws_of_steps::{
     answers_are_replies, deleted_name_is_dead, drawn_name_stays_drawn, empty_graph_is_live,
     graph_stays_live, new_name_is_new, read_transaction_changes_nothing, reading_changes_nothing,
-    refusal_changes_nothing, update_grows_no_more_than_script,
+    reference_keeps_one_partner, refusal_changes_nothing, update_grows_no_more_than_script,
 };
 pub use refusal::Refusal;
 pub use values::{Listed, Name, Names, Replies, Reply, Scalar, Value};
