@@ -172,6 +172,18 @@ fn words_that_cannot_stand(rt: HostRuntime) {
         (b"client a\nbegin\nbegin\ncommit\n".as_slice(), 15),
         (b"client a\nread\nabort\nabort\n".as_slice(), 20),
         (b"client a\n# \x01\n".as_slice(), 11),
+        (b"client a\nturns\n".as_slice(), 14),
+        (b"client a\nturns a*0\n".as_slice(), 15),
+        (b"client a\nturns a*1000001\n".as_slice(), 15),
+        (b"client a\nturns a\nclient b\n".as_slice(), 17),
+    ] {
+        expect_fault(&rt, rt.alloc(), text, JobFault::Syntax { at });
+    }
+}
+
+#[test]
+fn words_of_commands_that_cannot_stand(rt: HostRuntime) {
+    for (text, at) in [
         (
             b"client a\nbegin\nset $p.n \"a\tb\"\ncommit\n".as_slice(),
             26,
@@ -199,17 +211,13 @@ fn words_that_cannot_stand(rt: HostRuntime) {
         (b"client a\nbegin\nset $p.id +1\ncommit\n".as_slice(), 25),
         (b"client a\nbegin\nget $p.id 1\ncommit\n".as_slice(), 25),
         (b"client a\nbegin\nget $p\ncommit\n".as_slice(), 19),
-        (b"client a\nturns\n".as_slice(), 14),
-        (b"client a\nturns a*0\n".as_slice(), 15),
-        (b"client a\nturns a*1000001\n".as_slice(), 15),
-        (b"client a\nturns a\nclient b\n".as_slice(), 17),
     ] {
         expect_fault(&rt, rt.alloc(), text, JobFault::Syntax { at });
     }
 }
 
 #[test]
-fn faults_and_their_order(rt: HostRuntime) {
+fn bytes_names_and_options_at_fault(rt: HostRuntime) {
     for (text, fault) in [
         (b"\xff".as_slice(), JobFault::NotUtf8 { at: 0 }),
         (b"begin\n# \xc3".as_slice(), JobFault::NotUtf8 { at: 8 }),
@@ -250,6 +258,14 @@ fn faults_and_their_order(rt: HostRuntime) {
             b"client a tries 2 cache 3 tries 2\n".as_slice(),
             JobFault::BadOption { at: 25 },
         ),
+    ] {
+        expect_fault(&rt, rt.alloc(), text, fault);
+    }
+}
+
+#[test]
+fn the_first_fault_is_told(rt: HostRuntime) {
+    for (text, fault) in [
         (b"turns a\n".as_slice(), JobFault::UnknownTurn { at: 6 }),
         (
             b"client a\nturns a b*2\n".as_slice(),
