@@ -2,7 +2,6 @@
 
 mod ample;
 mod clients;
-mod clients;
 mod runs;
 mod slow;
 
