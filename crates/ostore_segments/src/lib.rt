@@ -19,7 +19,7 @@ pub use laws::{a_full_segment_has_no_place, serials_are_drawn_once};
 pub use objects::{NewCell, make};
 pub use pages::Pages;
 pub use placement::{NoSpace, place};
-pub use schema_pages::{NoFault, SchemaPages, root_row, size_told};
+pub use schema_pages::{SchemaPages, root_row, size_told};
 pub use serials::{draw_serial, serials_spent};
 
 #[cfg(test)]

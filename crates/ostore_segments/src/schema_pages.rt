@@ -15,13 +15,10 @@ use ostore_page_tags::layout::{
     SET_CHUNK, TEXT_INDEX_CHUNK,
 };
 use ostore_schema_layout::{Schema, code_size};
-
-/// No fault.
-#[derive(Clone, Copy, Debug, PartialEq, Eq)]
-pub enum NoFault {}
+use std::convert::Infallible;
 
 /// A list of pages in memory. It stands for that list alone, and is told the sizes and pointers of a schema's
-/// cells. Its pointers are stored ones.
+/// cells. Its pointers are stored ones. No call of it fails.
 #[derive(Drop)]
 pub struct SchemaPages<'a> {
     pub pages: PageList,
@@ -83,13 +80,13 @@ impl<'a> Pages for SchemaPages<'a> {
     ghost use Rattle.ostore_segments.specs.Holdings.{alone};
     ghost use Rattle.ostore_segments.specs.SchemaCells.{told_of};
 
-    type Fault = NoFault;
+    type Fault = Infallible;
 
     ghost told = { λ it. told_of it.schema.now };
 
     ghost held = { λ it. alone it.pages };
 
-    fn enter(&mut self, _page: PageNo) -> Result<(), NoFault> {
+    fn enter(&mut self, _page: PageNo) -> Result<(), Infallible> {
         Ok(())
     }
 
@@ -97,17 +94,17 @@ impl<'a> Pages for SchemaPages<'a> {
         self.pages.page(page)
     }
 
-    fn edit(&mut self, page: PageNo, at: u16, bytes: &[u8]) -> Result<(), NoFault> {
+    fn edit(&mut self, page: PageNo, at: u16, bytes: &[u8]) -> Result<(), Infallible> {
         put_bytes(&mut self.pages, page, at, bytes);
         Ok(())
     }
 
-    fn edit_pointer(&mut self, page: PageNo, at: u16, pointer: u32) -> Result<(), NoFault> {
+    fn edit_pointer(&mut self, page: PageNo, at: u16, pointer: u32) -> Result<(), Infallible> {
         put_bytes(&mut self.pages, page, at, &pointer.to_le_bytes());
         Ok(())
     }
 
-    fn edit_root(&mut self, i: u16, name: &[u8], pointer: u32) -> Result<(), NoFault> {
+    fn edit_root(&mut self, i: u16, name: &[u8], pointer: u32) -> Result<(), Infallible> {
         let row = root_row(name, pointer);
         put_bytes(
             &mut self.pages,
