@@ -3,8 +3,6 @@
 mod commands;
 mod graph;
 mod lookup;
-#[cfg(test)]
-mod tests;
 mod txn;
 mod vars;
 
