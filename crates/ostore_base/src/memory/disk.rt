@@ -50,8 +50,8 @@ impl Model for MemDisk {
 
 impl MemDisk {
     /// A disk with these bytes. Its calls fail whose numbers, counted from 1, stand in `fails`. Of
-    /// the others those writes fail that find no memory to be recorded, and those that end past the
-    /// longest disk. Where there are more bytes than that has, `length` fails.
+    /// the others those writes of some bytes fail that find no memory to be recorded, and those that
+    /// end past the longest disk. Where there are more bytes than that has, `length` fails.
     pub fn new(bytes: Vec<u8>, fails: Vec<u64>) -> MemDisk
         ensures { result ≡ fresh_disk bytes.items fails.items }
     {
@@ -253,7 +253,7 @@ impl Disk for MemDisk {
     }
 
     /// A write that failed leaves what the disk reads as. Of one that was named it is recorded that
-    /// a crash may leave any bytes in its range.
+    /// a crash may leave any bytes in its range. A write without bytes wants no memory.
     fn write(&mut self, at: u64, bytes: &[u8]) -> Result<(), Failed>
         requires inside { at ≤ length (reads self.old) }
         requires small { at + length bytes.now ≤ 2 ^ 40 }
@@ -264,6 +264,8 @@ impl Disk for MemDisk {
         ensures time { Passes self.old self.new }
         ensures named { IsNextNamed (memory_of self.old) → IsErr result }
         ensures within { OnOk result (at + length bytes.now ≤ longest_disk) }
+        ensures failed { IsErr result → IsNextNamed (memory_of self.old)
+            ⊎ (longest_disk < at + length bytes.now) ⊎ (0 < length bytes.now) }
         ensures counted { CountsCall (memory_of self.old) (memory_of self.new) }
         ensures fault { CountsFault self.old.faults self.new.faults result }
         ensures cause { HasCause self.old.faults self.new.faults result }
@@ -274,6 +276,9 @@ impl Disk for MemDisk {
         }
         if at + bytes.len() as u64 > LONGEST_DISK {
             return Err(self.fail());
+        }
+        if bytes.is_empty() {
+            return Ok(());
         }
         self.put(at, bytes)
     }
