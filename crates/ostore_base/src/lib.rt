@@ -2,6 +2,7 @@
 //! the small list types that contracts see as lists.
 #![tactic(auto)]
 
+pub mod cell_codes;
 mod copied;
 mod fault_count;
 mod list;

@@ -10,7 +10,7 @@ use Rattle.std.proofs.lemmas.Bool.{cases_eq, cases_Bool}
 use Rattle.std.proofs.lemmas.Option.{same_Some, none-some}
 use Rattle.ostore_schema_layout.specs.declared.schema.Schema.{Schema}
 use Rattle.ostore_schema_layout.specs.declared.schema.MemberDef.{MemberDef}
-use Rattle.ostore_schema_layout.specs.Cells.{descriptor_code}
+use Rattle.ostore_base.specs.declared.cell_codes.TheConstants.{INDEX_DESCRIPTOR}
 use Rattle.ostore_schema_layout.specs.Numbers.{members_of}
 use Rattle.ostore_schema_layout.specs.Lawful.{link_target}
 use Rattle.ostore_graph_model.specs.declared.values.Name.{Name}
@@ -472,17 +472,17 @@ module _ (schema : Schema) (heap now : Heap) (address member : ℕ) (tag : RowTa
 
   -- ---- indexes
 
-  descriptors_forth : (a m : ℕ) (t : RowTag) (d : MemberDef) (head : CollectionHead) → HasMember schema heap a m t d (Slot.Begins head) → (links : List ChainLink) → IsChain heap descriptor_code t.segment head.descriptor links → IsChain now descriptor_code t.segment head.descriptor links
+  descriptors_forth : (a m : ℕ) (t : RowTag) (d : MemberDef) (head : CollectionHead) → HasMember schema heap a m t d (Slot.Begins head) → (links : List ChainLink) → IsChain heap INDEX_DESCRIPTOR t.segment head.descriptor links → IsChain now INDEX_DESCRIPTOR t.segment head.descriptor links
   descriptors_forth a m t d head held links linked =
-      moved schema heap now address member tag def slots was is chain after change chains (Owner.Indexes a m) (chain_head descriptor_code t.segment head.descriptor (item_type d.kind))
+      moved schema heap now address member tag def slots was is chain after change chains (Owner.Indexes a m) (chain_head INDEX_DESCRIPTOR t.segment head.descriptor (item_type d.kind))
       (record { tag = t; def = d; begins = head; has = held; is = refl }) (no_items_indexes a m address member) links linked
 
-  descriptors_back : (a m : ℕ) (t : RowTag) (d : MemberDef) (head : CollectionHead) → HasMember schema heap a m t d (Slot.Begins head) → (links : List ChainLink) → IsChain now descriptor_code t.segment head.descriptor links → IsChain heap descriptor_code t.segment head.descriptor links
+  descriptors_back : (a m : ℕ) (t : RowTag) (d : MemberDef) (head : CollectionHead) → HasMember schema heap a m t d (Slot.Begins head) → (links : List ChainLink) → IsChain now INDEX_DESCRIPTOR t.segment head.descriptor links → IsChain heap INDEX_DESCRIPTOR t.segment head.descriptor links
   descriptors_back a m t d head held links linked =
-      let owns : OwnsIndexes schema heap a m (chain_head descriptor_code t.segment head.descriptor (item_type d.kind)) = record { tag = t; def = d; begins = head; has = held; is = refl } in
-      let whole = (chains a).whole (Owner.Indexes a m) (chain_head descriptor_code t.segment head.descriptor (item_type d.kind)) refl owns in
-      subst (IsChain heap descriptor_code t.segment head.descriptor)
-      (chain_unique now descriptor_code t.segment head.descriptor whole.0 links (descriptors_forth a m t d head held whole.0 whole.1) linked) whole.1
+      let owns : OwnsIndexes schema heap a m (chain_head INDEX_DESCRIPTOR t.segment head.descriptor (item_type d.kind)) = record { tag = t; def = d; begins = head; has = held; is = refl } in
+      let whole = (chains a).whole (Owner.Indexes a m) (chain_head INDEX_DESCRIPTOR t.segment head.descriptor (item_type d.kind)) refl owns in
+      subst (IsChain heap INDEX_DESCRIPTOR t.segment head.descriptor)
+      (chain_unique now INDEX_DESCRIPTOR t.segment head.descriptor whole.0 links (descriptors_forth a m t d head held whole.0 whole.1) linked) whole.1
 
   pub indexes_stay : (indexes : sets.FinSet index_cmp) → ShowsIndexes schema heap indexes → ShowsIndexes schema now indexes
   indexes_stay indexes shown index = (λ e. forth ((shown index).0 e), λ h. (shown index).1 (back h))
@@ -501,7 +501,7 @@ module _ (schema : Schema) (heap now : Heap) (address member : ℕ) (tag : RowTa
                   has = subst (λ n. HasMember schema now address n tag def (Slot.Begins is)) (sym this.1) (has schema heap now address member tag def slots was is chain after change);
                   named = ap name_in (sym this.2) ∙ h.named;
                   chain = h.chain;
-                  linked = subst (λ (p : ℕ). IsChain now descriptor_code tag.segment p h.chain) (ap (λ (x : CollectionHead). x.descriptor) head ∙ sym change.descriptor) (subst (λ (t : RowTag). IsChain now descriptor_code t.segment h.head.descriptor h.chain) this.2 stays);
+                  linked = subst (λ (p : ℕ). IsChain now INDEX_DESCRIPTOR tag.segment p h.chain) (ap (λ (x : CollectionHead). x.descriptor) head ∙ sym change.descriptor) (subst (λ (t : RowTag). IsChain now INDEX_DESCRIPTOR t.segment h.head.descriptor h.chain) this.2 stays);
                   descriptor = h.descriptor;
                   there = h.there;
                   path = h.path;
@@ -525,7 +525,7 @@ module _ (schema : Schema) (heap now : Heap) (address member : ℕ) (tag : RowTa
       back h = elim (now_member schema heap now address member tag def slots was is chain after change h.address index.set.member.0 h.tag h.def (Slot.Begins h.head) h.has) [
         | inl this ↦
             let head : h.head ≡ is = begins_same h.head is this.4 in
-            let linked = subst (λ (p : ℕ). IsChain now descriptor_code tag.segment p h.chain) (ap (λ (x : CollectionHead). x.descriptor) head ∙ change.descriptor) (subst (λ (t : RowTag). IsChain now descriptor_code t.segment h.head.descriptor h.chain) this.2 h.linked) in
+            let linked = subst (λ (p : ℕ). IsChain now INDEX_DESCRIPTOR tag.segment p h.chain) (ap (λ (x : CollectionHead). x.descriptor) head ∙ change.descriptor) (subst (λ (t : RowTag). IsChain now INDEX_DESCRIPTOR t.segment h.head.descriptor h.chain) this.2 h.linked) in
             record {
               address = address;
               tag = tag;

@@ -8,7 +8,7 @@ use Rattle.std.proofs.lemmas.Option.{same_Some, none-some, slice_get_within}
 use Rattle.ostore_page_tags.specs.Rules.{is_type_code}
 use Rattle.ostore_schema_layout.specs.declared.schema.Schema.{Schema}
 use Rattle.ostore_schema_layout.specs.declared.schema.MemberDef.{MemberDef}
-use Rattle.ostore_schema_layout.specs.Cells.{descriptor_code}
+use Rattle.ostore_base.specs.declared.cell_codes.TheConstants.{INDEX_DESCRIPTOR}
 use Rattle.ostore_schema_layout.specs.Numbers.{members_of}
 use Rattle.ostore_graph_model.specs.Chains.{IsIn, item_type, chunk_code, ChainLink, next_of, chunk_tag, IsChain, entries_of}
 use Rattle.ostore_graph_model.specs.Heap.{Heap, tag_at, code_at, links_at, live_cell, HasMember}
@@ -247,7 +247,7 @@ module _ (schema : Schema) (heap now : Heap) (address member : ℕ) (tag : RowTa
             def = def;
             begins = was;
             has = subst (λ a. HasMember schema heap a m tag def (Slot.Begins was)) (sym this.0) (subst (λ n. HasMember schema heap address n tag def (Slot.Begins was)) (sym this.1) had);
-            is = owns.is ∙ (λ i. chain_head descriptor_code (this.2 i).segment ((ap (λ (h : CollectionHead). h.descriptor) begins ∙ change.descriptor) i) (item_type (this.3 i).kind));
+            is = owns.is ∙ (λ i. chain_head INDEX_DESCRIPTOR (this.2 i).segment ((ap (λ (h : CollectionHead). h.descriptor) begins ∙ change.descriptor) i) (item_type (this.3 i).kind));
           }
       | inr old ↦ record { tag = owns.tag; def = owns.def; begins = owns.begins; has = old.1; is = owns.is }
     ]
@@ -261,7 +261,7 @@ module _ (schema : Schema) (heap now : Heap) (address member : ℕ) (tag : RowTa
             def = def;
             begins = is;
             has = subst (λ a. HasMember schema now a m tag def (Slot.Begins is)) (sym this.0) (subst (λ n. HasMember schema now address n tag def (Slot.Begins is)) (sym this.1) has);
-            is = owns.is ∙ (λ i. chain_head descriptor_code (this.2 i).segment ((ap (λ (h : CollectionHead). h.descriptor) begins ∙ sym change.descriptor) i) (item_type (this.3 i).kind));
+            is = owns.is ∙ (λ i. chain_head INDEX_DESCRIPTOR (this.2 i).segment ((ap (λ (h : CollectionHead). h.descriptor) begins ∙ sym change.descriptor) i) (item_type (this.3 i).kind));
           }
       | inr stays ↦ record { tag = owns.tag; def = owns.def; begins = owns.begins; has = stays; is = owns.is }
     ]
@@ -488,7 +488,7 @@ module _ (schema : Schema) (heap now : Heap) (address member : ℕ) (tag : RowTa
       collection_pointers other = record {
         members = λ m also d slot held. elim (now_member other m also d slot held) [
           | inl this ↦ subst (λ sl. HasGoodPointers schema now d.kind sl) (sym this.4) (subst (λ (x : MemberDef). HasGoodPointers schema now x.kind (Slot.Begins is)) (sym this.3)
-              (first_leads after is.first change.relinked, λ some. codes_grow is.descriptor descriptor_code (ap (code_at heap) change.descriptor ∙ ((pointers address).members member tag def (Slot.Begins was) had).1 (λ none. some (change.descriptor ∙ none)))))
+              (first_leads after is.first change.relinked, λ some. codes_grow is.descriptor INDEX_DESCRIPTOR (ap (code_at heap) change.descriptor ∙ ((pointers address).members member tag def (Slot.Begins was) had).1 (λ none. some (change.descriptor ∙ none)))))
           | inr old ↦ good_by_codes schema heap now codes_grow d.kind slot ((pointers other).members m also d slot old.1)
         ];
         chunks = λ also next entries there. (next_row also next entries there, good_entries other also next entries there);
@@ -497,7 +497,7 @@ module _ (schema : Schema) (heap now : Heap) (address member : ℕ) (tag : RowTa
           | inr outside ↦
               let same = outside_stays other also (Links.Index next index) outside there (λ held e. no_slots next index held e) in
               let leads = (pointers other).descriptors also next index (sym same ∙ there) in
-              (grown descriptor_code next leads.0, grown (index_code index.kind) index.first leads.1)
+              (grown INDEX_DESCRIPTOR next leads.0, grown (index_code index.kind) index.first leads.1)
         ];
       }
         where

@@ -10,7 +10,7 @@ use Rattle.ostore_schema_layout.specs.declared.schema.MemberDef.{MemberDef}
 use Rattle.ostore_schema_layout.specs.declared.schema.MemberKind.{MemberKind}
 use Rattle.ostore_schema_layout.specs.declared.schema.MemberKind.TheVariants as kinds
 use Rattle.ostore_schema_layout.specs.declared.schema.Inverse.{Inverse}
-use Rattle.ostore_schema_layout.specs.Cells.{descriptor_code}
+use Rattle.ostore_base.specs.declared.cell_codes.TheConstants.{INDEX_DESCRIPTOR}
 use Rattle.ostore_graph_model.specs.Chains.{item_type, chunk_code, ChainLink, next_of, IsChain, entries_of, HasEntries, LeadsTo}
 use Rattle.ostore_graph_model.specs.Heap.{Heap, code_at, links_at, HasMember}
 use Rattle.ostore_graph_model.specs.HeapRules.{LeadsToChunk, HasGoodPointers, KeepsPointers, KeepsChains, KeepsOwner, KeepsItems, KeepsLinks}
@@ -273,7 +273,7 @@ module _ (schema : Schema) (heap now : Heap) (address : ℕ) (change : ChangesOb
   good_kept : (kind : MemberKind) (slot : Slot) → HasGoodPointers schema heap kind slot → HasGoodPointers schema now kind slot
   good_kept kind Slot.Plain good = tt
   good_kept kind (Slot.Refers pointer) good = row_kept (item_type kind) pointer good
-  good_kept kind (Slot.Begins head) good = (row_kept (chunk_code kind) head.first good.0, row_kept descriptor_code head.descriptor good.1)
+  good_kept kind (Slot.Begins head) good = (row_kept (chunk_code kind) head.first good.0, row_kept INDEX_DESCRIPTOR head.descriptor good.1)
 
   pub pointers_kept : ((other : ℕ) → KeepsPointers schema heap other) → (other : ℕ) → KeepsPointers schema now other
   pointers_kept keeps other = record {
@@ -291,7 +291,7 @@ module _ (schema : Schema) (heap now : Heap) (address : ℕ) (change : ChangesOb
         );
     descriptors = λ tag next index there.
         let was = (keeps other).descriptors tag next index (back other (index_apart other next index (links_are now other _ there)) ∙ there) in
-        (row_kept descriptor_code next was.0, row_kept (index_code index.kind) index.first was.1);
+        (row_kept INDEX_DESCRIPTOR next was.0, row_kept (index_code index.kind) index.first was.1);
   }
 
   -- ---- rule 11

@@ -5,7 +5,8 @@ use Rattle.ostore_graph_model.specs.Sets as sets
 use Rattle.ostore_graph_model.proofs.SetFacts as set_facts
 use Rattle.ostore_schema_layout.specs.declared.schema.Schema.{Schema}
 use Rattle.ostore_schema_layout.specs.declared.schema.MemberDef.{MemberDef}
-use Rattle.ostore_schema_layout.specs.Cells.{descriptor_code, ArePairwise}
+use Rattle.ostore_schema_layout.specs.Cells.{ArePairwise}
+use Rattle.ostore_base.specs.declared.cell_codes.TheConstants.{INDEX_DESCRIPTOR}
 use Rattle.ostore_graph_model.specs.Orders.{PathIndex, index_cmp}
 use Rattle.ostore_graph_model.specs.Graph.{Graph}
 use Rattle.ostore_graph_model.specs.Chains.{ChainLink, IsChain, indexes_of}
@@ -22,7 +23,7 @@ module _ (schema : Schema) (heap : Heap) (shown : ShowsIndexes schema heap sets.
   nothing index has = true≢false (sym ((shown index).1 has) ∙ set_facts.contains-empty index_cmp index)
 
   none_along : (address member : ℕ) (tag : RowTag) (def : MemberDef) (head : CollectionHead) (chain : List ChainLink) → HasMember schema heap address member tag def (Slot.Begins head)
-      → IsChain heap descriptor_code tag.segment head.descriptor chain → (all : List IndexDescriptor) → all ≡ indexes_of chain → indexes_of chain ≡ []
+      → IsChain heap INDEX_DESCRIPTOR tag.segment head.descriptor chain → (all : List IndexDescriptor) → all ≡ indexes_of chain → indexes_of chain ≡ []
   none_along address member tag def head chain has linked [] is = sym is
   none_along address member tag def head chain has linked (one ∷ others) is =
       absurd (nothing (record { set = record { object = name_in tag; member = record { 0 = member } }; path = map (λ step. record { 0 = step.member }) (take one.steps one.path) }) (record {

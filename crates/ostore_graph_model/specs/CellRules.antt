@@ -3,7 +3,7 @@ use Rattle.std.specs.Prelude.{ℕ, ◌+◌, ◌*◌, Bool, true, ◌&&◌, ◌==
 use Rattle.std.specs.List.{list_all, range_with_len}
 use Rattle.std.specs.Str.{is_utf8}
 use Rattle.ostore_page_tags.specs.Numbers.{number_at}
-use Rattle.ostore_page_tags.specs.declared.layout.TheConstants.{SET_CHUNK, TEXT_DICTIONARY_CHUNK, INDEX_DESCRIPTOR, INT_INDEX_CHUNK, TEXT_INDEX_CHUNK, COUNT_IN_CHUNK}
+use Rattle.ostore_base.specs.declared.cell_codes.TheConstants.{SET_CHUNK, TEXT_DICTIONARY_CHUNK, INDEX_DESCRIPTOR, INT_INDEX_CHUNK, TEXT_INDEX_CHUNK, COUNT_IN_CHUNK}
 use Rattle.ostore_page_tags.specs.Cells.{between}
 use Rattle.ostore_page_tags.specs.Rules.{are_zero}
 use Rattle.ostore_schema_layout.specs.declared.schema.Schema.{Schema}

@@ -1,7 +1,7 @@
 -- Collections and their chains of chunks: what is found by following pointers from one cell to the next.
 use Rattle.std.specs.Prelude.{◌≡◌, ◌≢◌, ◌⊎◌, ℕ, List, [], ◌∷◌, map, Some}
 use Rattle.std.specs.List.{flat_map, Contains}
-use Rattle.ostore_page_tags.specs.declared.layout.TheConstants.{SET_CHUNK, LIST_CHUNK, INT_DICTIONARY_CHUNK, TEXT_DICTIONARY_CHUNK}
+use Rattle.ostore_base.specs.declared.cell_codes.TheConstants.{SET_CHUNK, LIST_CHUNK, INT_DICTIONARY_CHUNK, TEXT_DICTIONARY_CHUNK}
 use Rattle.ostore_schema_layout.specs.declared.schema.MemberKind.{MemberKind}
 use Rattle.ostore_schema_layout.specs.declared.schema.MemberKind.TheVariants as kinds
 use Rattle.ostore_graph_model.specs.Kinds.{target_of}

@@ -2,7 +2,7 @@
 -- of a descriptor.
 use Rattle.std.specs.Prelude.{ℕ, ◌+◌, ◌*◌, ◌==◌, nat_le, if◌then◌else◌, List, map, Option, Some, None}
 use Rattle.std.specs.List.{range_with_len}
-use Rattle.ostore_page_tags.specs.declared.layout.TheConstants.{INT_DICTIONARY_CHUNK, TEXT_DICTIONARY_CHUNK, INT_INDEX_CHUNK, TEXT_INDEX_CHUNK, COUNT_IN_CHUNK, ENTRIES_IN_CHUNK}
+use Rattle.ostore_base.specs.declared.cell_codes.TheConstants.{INT_DICTIONARY_CHUNK, TEXT_DICTIONARY_CHUNK, INT_INDEX_CHUNK, TEXT_INDEX_CHUNK, COUNT_IN_CHUNK, ENTRIES_IN_CHUNK}
 use Rattle.ostore_page_tags.specs.Numbers.{number_at, int_at}
 use Rattle.ostore_schema_layout.specs.Cells.{chunk_of}
 use Rattle.ostore_graph_model.specs.declared.values.Name.{Name}

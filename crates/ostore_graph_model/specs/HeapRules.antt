@@ -2,7 +2,7 @@
 -- are whole and belong to one owner each (rule 10), and each side of a link knows the other (rule 11). A rule is
 -- said of one address, and fails at the page of that address.
 use Rattle.std.specs.Prelude.{◌≡◌, ◌≢◌, ◌⊎◌, ℕ, ◌≤◌, IsTrue, List, [], ◌∷◌, length, All, Option, Some, None}
-use Rattle.ostore_page_tags.specs.declared.layout.TheConstants.{SET_CHUNK, LIST_CHUNK, INT_DICTIONARY_CHUNK, TEXT_DICTIONARY_CHUNK, INDEX_DESCRIPTOR}
+use Rattle.ostore_base.specs.declared.cell_codes.TheConstants.{SET_CHUNK, LIST_CHUNK, INT_DICTIONARY_CHUNK, TEXT_DICTIONARY_CHUNK, INDEX_DESCRIPTOR}
 use Rattle.ostore_page_tags.specs.Rules.{is_type_code, is_chunk_code}
 use Rattle.ostore_text_words.specs.Words.{is_identifier}
 use Rattle.ostore_schema_layout.specs.declared.schema.Schema.{Schema}

@@ -1,6 +1,6 @@
 -- To whom the chunks and descriptors of a heap belong: which chains there are, and what is reached along each.
 use Rattle.std.specs.Prelude.{◌≡◌, ◌≢◌, ℕ, ◌==◌, if◌then◌else◌, List, [], ◌∷◌, Some}
-use Rattle.ostore_page_tags.specs.declared.layout.TheConstants.{INDEX_DESCRIPTOR, INT_INDEX_CHUNK, TEXT_INDEX_CHUNK}
+use Rattle.ostore_base.specs.declared.cell_codes.TheConstants.{INDEX_DESCRIPTOR, INT_INDEX_CHUNK, TEXT_INDEX_CHUNK}
 use Rattle.ostore_schema_layout.specs.declared.schema.Schema.{Schema}
 use Rattle.ostore_schema_layout.specs.declared.schema.MemberDef.{MemberDef}
 use Rattle.ostore_graph_model.specs.Chunks.{IndexDescriptor, of_ints, of_texts}

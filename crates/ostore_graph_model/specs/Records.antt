@@ -4,7 +4,7 @@
 use Rattle.std.specs.Prelude.{ℕ, ◌+◌, Bool, ◌&&◌, ◌||◌, ◌==◌, nat_le, if◌then◌else◌, List, length, map, Option}
 use Rattle.std.specs.Option.{option_map}
 use Rattle.ostore_base.specs.declared.page.PageImage.{PageImage}
-use Rattle.ostore_page_tags.specs.declared.layout.TheConstants.{SET_CHUNK, INDEX_DESCRIPTOR, NEXT_IN_CHUNK}
+use Rattle.ostore_base.specs.declared.cell_codes.TheConstants.{SET_CHUNK, INDEX_DESCRIPTOR, NEXT_IN_CHUNK}
 use Rattle.ostore_page_tags.specs.Numbers.{number_at}
 use Rattle.ostore_page_tags.specs.Rules.{is_chunk_code}
 use Rattle.ostore_schema_layout.specs.declared.schema.Schema.{Schema}

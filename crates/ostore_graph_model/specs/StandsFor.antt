@@ -6,7 +6,7 @@ use Rattle.std.specs.Ordering.{nat_cmp}
 use Rattle.std.specs.FinMap as maps
 use Rattle.ostore_graph_model.specs.Sets as sets
 use Rattle.ostore_base.specs.declared.page.PageImage.{PageImage}
-use Rattle.ostore_page_tags.specs.declared.layout.TheConstants.{LIST_CHUNK, INT_DICTIONARY_CHUNK, TEXT_DICTIONARY_CHUNK, INDEX_DESCRIPTOR}
+use Rattle.ostore_base.specs.declared.cell_codes.TheConstants.{LIST_CHUNK, INT_DICTIONARY_CHUNK, TEXT_DICTIONARY_CHUNK, INDEX_DESCRIPTOR}
 use Rattle.ostore_schema_layout.specs.declared.schema.Schema.{Schema}
 use Rattle.ostore_schema_layout.specs.declared.schema.MemberDef.{MemberDef}
 use Rattle.ostore_schema_layout.specs.Lawful.{link_target}

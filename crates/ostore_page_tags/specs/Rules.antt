@@ -2,7 +2,8 @@
 use Rattle.std.specs.Prelude.{◌≡◌, ℕ, ◌+◌, ◌-◌, ◌*◌, ◌%◌, Bool, true, ◌&&◌, ◌||◌, not, ◌==◌, nat_lt, nat_le, if◌then◌else◌, max, List, [], ◌∷◌, length, map, Option, Some, None, Result, Ok, Err}
 use Rattle.std.specs.List.{list_all}
 use Rattle.ostore_base.specs.declared.page.TheConstants.{PAGE_SIZE}
-use Rattle.ostore_page_tags.specs.declared.layout.TheConstants.{OBJECTS_KIND, HEADER_BYTES, SPARE_AT, FIELDS_END, ROW_BYTES, CELL_STEP, LIVE_STATE, SET_CHUNK, TEXT_INDEX_CHUNK}
+use Rattle.ostore_page_tags.specs.declared.layout.TheConstants.{OBJECTS_KIND, HEADER_BYTES, SPARE_AT, FIELDS_END, ROW_BYTES, CELL_STEP, LIVE_STATE}
+use Rattle.ostore_base.specs.declared.cell_codes.TheConstants.{SET_CHUNK, TEXT_INDEX_CHUNK}
 use Rattle.ostore_page_tags.specs.declared.check.PageFault.{PageFault}
 use Rattle.ostore_page_tags.specs.declared.check.PageFault.TheVariants.{BadHeader, RowsOverlap, RowOrder, BadType, CellPastEnd}
 use Rattle.ostore_page_tags.specs.Limits.{most_types}

@@ -10,12 +10,12 @@ ghost use Rattle.ostore_page_tags.specs.inside.RowsFit.{RowsFit};
 
 use crate::laws::image_is_whole;
 use crate::layout::{
-    CELL_STEP, FIELDS_END, HEADER_BYTES, LIVE_STATE, OBJECTS_KIND, ROW_BYTES, SET_CHUNK, SPARE_AT,
-    TEXT_INDEX_CHUNK,
+    CELL_STEP, FIELDS_END, HEADER_BYTES, LIVE_STATE, OBJECTS_KIND, ROW_BYTES, SPARE_AT,
 };
 use crate::numbers::get_u16;
 use crate::page_header::header;
 use crate::tag_rows::{stored_row, stored_state};
+use ostore_base::cell_codes::{SET_CHUNK, TEXT_INDEX_CHUNK};
 use ostore_base::{PAGE_SIZE, PageImage};
 use std::fmt;
 

@@ -6,7 +6,8 @@ use Rattle.ostore_schema_layout.specs.declared.schema.Schema.{Schema}
 use Rattle.ostore_schema_layout.specs.declared.schema.MemberDef.{MemberDef}
 use Rattle.ostore_schema_layout.specs.declared.schema.MemberKind.{MemberKind}
 use Rattle.ostore_schema_layout.specs.declared.schema.MemberKind.TheVariants as kinds
-use Rattle.ostore_schema_layout.specs.Cells.{cell_size, chunk_of, chunk_pointers, chunk_size, code_size, descriptor_code, in_fours, kind_size, places_from, pointers_of, pointers_of_kind, pointers_of_place, sizes, type_pointers}
+use Rattle.ostore_schema_layout.specs.Cells.{cell_size, chunk_of, chunk_pointers, chunk_size, code_size, in_fours, kind_size, places_from, pointers_of, pointers_of_kind, pointers_of_place, sizes, type_pointers}
+use Rattle.ostore_base.specs.declared.cell_codes.TheConstants.{INDEX_DESCRIPTOR}
 use Rattle.ostore_schema_layout.specs.Numbers.{members_of}
 use Rattle.ostore_schema_layout.proofs.places.LayoutLaws.{sizes_in_cell}
 use Rattle.ostore_relocation.specs.Places.{LieBetween}
@@ -80,7 +81,7 @@ both R false x y u v h k = k
 lie_chunk : (code : ℕ) → LieBetween 0 (chunk_pointers code) (chunk_size code)
 lie_chunk code =
     let form = chunk_of code in
-    both (LieBetween 0) (code == descriptor_code) _ _ _ _ (omega arith, (omega arith, omega arith)) (lie_form form.entries form.entry_size form.pointer_at (sound_form code))
+    both (LieBetween 0) (code == INDEX_DESCRIPTOR) _ _ _ _ (omega arith, (omega arith, omega arith)) (lie_form form.entries form.entry_size form.pointer_at (sound_form code))
 
 -- the pointers of a cell lie one behind the other in the cell
 pub lie_code : (schema : Schema) (code : ℕ) → LieBetween 0 (pointers_of schema code) (code_size schema code)

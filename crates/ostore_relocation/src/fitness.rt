@@ -15,8 +15,9 @@ ghost use Rattle.ostore_relocation.specs.inside.RowFit.{IsRowFit};
 use crate::pointer::{PAGE_BYTES, get_pointer};
 use crate::relocate::holds_objects;
 use crate::roots::{ROOTS, name_length_place, pointer_place};
+use ostore_base::cell_codes::{SET_CHUNK, TEXT_INDEX_CHUNK};
 use ostore_base::{MAX_PAGES, PAGE_SIZE, PageImage, PageNo};
-use ostore_page_tags::layout::{ROOTS_PAGE, SET_CHUNK, TEXT_INDEX_CHUNK};
+use ostore_page_tags::layout::ROOTS_PAGE;
 use ostore_page_tags::{Row, cell_end, check_page, get_u8, nth_row, rows};
 use ostore_schema_layout::{Pointers, Schema, code_size};
 

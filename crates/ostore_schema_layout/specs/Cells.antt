@@ -10,6 +10,7 @@ use Rattle.ostore_schema_layout.specs.declared.layouts.Place.{Place}
 use Rattle.ostore_schema_layout.specs.declared.layouts.Layout.{Layout}
 use Rattle.ostore_schema_layout.specs.Limits.{largest_cell}
 use Rattle.ostore_schema_layout.specs.Numbers.{members_of}
+use Rattle.ostore_base.specs.declared.cell_codes.TheConstants.{SET_CHUNK, INT_DICTIONARY_CHUNK, TEXT_DICTIONARY_CHUNK, INDEX_DESCRIPTOR, INT_INDEX_CHUNK, TEXT_INDEX_CHUNK, ENTRIES_IN_CHUNK}
 
 -- each item stands in a relation to every later one
 abbrev pub ArePairwise : {X : Type 0} → (X → X → Type 0) → List X → Type 0
@@ -67,8 +68,8 @@ pub record IsSoundLayout (layout : Layout) : Type 0 where
 
 -- ---- chunks and descriptors
 
--- Entries behind the chunk's own 8 bytes, which are the next chunk's pointer, the count in 2 bytes and
--- a zero in 2 bytes.
+-- The entries of a chunk. Before them stand the next chunk's pointer, the count in 2 bytes and a zero
+-- in 2 bytes.
 pub record ChunkForm : Type 0 where
   pub entries : ℕ
   pub entry_size : ℕ
@@ -78,26 +79,22 @@ pub record ChunkForm : Type 0 where
 abbrev pub chunk_form : ℕ → ℕ → ℕ → ChunkForm
 chunk_form entries entry_size pointer_at = record { entries = entries; entry_size = entry_size; pointer_at = pointer_at }
 
---   240 a set's chunk     241 a list's    242 a dictionary's with int keys   243 one with text keys
---   245 an index's chunk of ints          246 one of texts
+-- by the codes of chunks; a set's and a list's have pointers alone
 abbrev pub chunk_of : ℕ → ChunkForm
 chunk_of code =
-    if code == 242 then chunk_form 16 12 8
-    else if code == 243 then chunk_form 8 48 44
-    else if code == 245 then chunk_form 16 20 8
-    else if code == 246 then chunk_form 16 56 44
+    if code == INT_DICTIONARY_CHUNK then chunk_form 16 12 8
+    else if code == TEXT_DICTIONARY_CHUNK then chunk_form 8 48 44
+    else if code == INT_INDEX_CHUNK then chunk_form 16 20 8
+    else if code == TEXT_INDEX_CHUNK then chunk_form 16 56 44
     else chunk_form 30 4 0
 
--- an index descriptor's code; it has the next descriptor's pointer and the first chunk's
-abbrev pub descriptor_code : ℕ
-descriptor_code = 244
-
+-- an index descriptor has the next descriptor's pointer, the first chunk's, and 8 bytes
 abbrev pub chunk_size : ℕ → ℕ
-chunk_size code = if code == descriptor_code then 16 else 8 + (chunk_of code).entries * (chunk_of code).entry_size
+chunk_size code = if code == INDEX_DESCRIPTOR then 16 else ENTRIES_IN_CHUNK + (chunk_of code).entries * (chunk_of code).entry_size
 
 -- the size of a cell of a code
 abbrev pub code_size : Schema → ℕ → ℕ
-code_size schema code = if nat_le 240 code then chunk_size code else cell_size (members_of schema code)
+code_size schema code = if nat_le SET_CHUNK code then chunk_size code else cell_size (members_of schema code)
 
 -- ---- pointers
 
@@ -115,17 +112,17 @@ abbrev pub pointers_of_place : Place → List ℕ
 pointers_of_place place = pointers_of_kind place.offset place.kind
 
 abbrev pub entry_pointers : ChunkForm → List ℕ
-entry_pointers form = map (λ i. 8 + form.pointer_at + form.entry_size * i) (range_with_len 0 form.entries)
+entry_pointers form = map (λ i. ENTRIES_IN_CHUNK + form.pointer_at + form.entry_size * i) (range_with_len 0 form.entries)
 
 abbrev pub chunk_pointers : ℕ → List ℕ
-chunk_pointers code = if code == descriptor_code then 0 ∷ 4 ∷ [] else 0 ∷ entry_pointers (chunk_of code)
+chunk_pointers code = if code == INDEX_DESCRIPTOR then 0 ∷ 4 ∷ [] else 0 ∷ entry_pointers (chunk_of code)
 
 abbrev pub type_pointers : List MemberDef → List ℕ
 type_pointers members = flat_map pointers_of_place (places_from 0 members)
 
 -- where the pointers of a cell of a code are, ascending
 abbrev pub pointers_of : Schema → ℕ → List ℕ
-pointers_of schema code = if nat_le 240 code then chunk_pointers code else type_pointers (members_of schema code)
+pointers_of schema code = if nat_le SET_CHUNK code then chunk_pointers code else type_pointers (members_of schema code)
 
 -- pointers at these places, 4 bytes each, lie in a cell of the code
 abbrev pub AreInCell : Schema → ℕ → List ℕ → Type 0
@@ -133,7 +130,7 @@ AreInCell schema code places = AllByRecursion (λ place. place + 4 ≤ code_size
 
 -- the code of a type of the schema, or of a chunk or descriptor
 abbrev pub HasCode : Schema → ℕ → Type 0
-HasCode schema code = IsType schema code ⊎ ((240 ≤ code) × (code ≤ 246))
+HasCode schema code = IsType schema code ⊎ ((SET_CHUNK ≤ code) × (code ≤ TEXT_INDEX_CHUNK))
 
 -- the least pointer from a place on
 abbrev pub pointer_from : Schema → ℕ → ℕ → Option ℕ

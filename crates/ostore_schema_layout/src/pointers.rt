@@ -4,7 +4,8 @@ ghost use Rattle.std.specs.Prelude.{◌≡◌, ◌≢◌, ◌+◌, ◌≤◌, []
 ghost use Rattle.std.specs.List.{AllByRecursion, find};
 ghost use Rattle.std.specs.List.Sorted.{IsStrictlyIncreasing};
 ghost use Rattle.ostore_schema_layout.specs.Limits.{largest_cell};
-ghost use Rattle.ostore_schema_layout.specs.Cells.{AreInCell, HasCode, chunk_of, chunk_pointers, code_size, descriptor_code, entry_pointers, pointer_from, pointers_of, pointers_of_kind, sizes, type_pointers};
+ghost use Rattle.ostore_schema_layout.specs.Cells.{AreInCell, HasCode, chunk_of, chunk_pointers, code_size, entry_pointers, pointer_from, pointers_of, pointers_of_kind, sizes, type_pointers};
+ghost use Rattle.ostore_base.specs.declared.cell_codes.TheConstants.{INDEX_DESCRIPTOR};
 ghost use Rattle.ostore_schema_layout.specs.Lawful.{IsLawful};
 
 mod walk;
@@ -12,29 +13,12 @@ mod walk;
 use crate::cells::{kind_size, members_size};
 use crate::schema::{MemberDef, MemberKind, Schema, TypeNo};
 use ostore_base::OutOfMemory;
+use ostore_base::cell_codes::{
+    ENTRIES_IN_CHUNK, INDEX_DESCRIPTOR, INT_DICTIONARY_CHUNK, INT_INDEX_CHUNK, SET_CHUNK,
+    TEXT_DICTIONARY_CHUNK, TEXT_INDEX_CHUNK,
+};
 use std::alloc::Global;
 pub use walk::Pointers;
-
-/// The least of the codes that aren't types': a set's chunk.
-const FIRST_CHUNK: u8 = 240;
-
-/// A dictionary's chunk, with int keys.
-const DICT_INT_CHUNK: u8 = 242;
-
-/// A dictionary's chunk, with text keys.
-const DICT_TEXT_CHUNK: u8 = 243;
-
-/// An index descriptor. It has the next descriptor's pointer and the first chunk's.
-const DESCRIPTOR: u8 = 244;
-
-/// An index's chunk of ints.
-const INDEX_INT_CHUNK: u8 = 245;
-
-/// An index's chunk of texts.
-const INDEX_TEXT_CHUNK: u8 = 246;
-
-/// Where a chunk's entries begin, in bytes from its start. The next chunk's pointer stands at its start.
-const ENTRIES_AT: u16 = 8;
 
 /// The size of a descriptor, in bytes.
 const DESCRIPTOR_BYTES: u16 = 16;
@@ -60,7 +44,7 @@ impl ChunkForm {
         requires { self.now.pointer_at ≤ 100 }
         ensures { result ≡ 8 + self.now.pointer_at }
     {
-        ENTRIES_AT + self.pointer_at
+        ENTRIES_IN_CHUNK + self.pointer_at
     }
 }
 
@@ -71,10 +55,10 @@ fn chunk_form(code: u8) -> ChunkForm
     ensures pointer_at { result.pointer_at ≡ (chunk_of code).pointer_at }
 {
     let (entries, entry_size, pointer_at) = match code {
-        DICT_INT_CHUNK => (16, 12, 8),
-        DICT_TEXT_CHUNK => (8, 48, 44),
-        INDEX_INT_CHUNK => (16, 20, 8),
-        INDEX_TEXT_CHUNK => (16, 56, 44),
+        INT_DICTIONARY_CHUNK => (16, 12, 8),
+        TEXT_DICTIONARY_CHUNK => (8, 48, 44),
+        INT_INDEX_CHUNK => (16, 20, 8),
+        TEXT_INDEX_CHUNK => (16, 56, 44),
         _ => (30, 4, 0),
     };
     ChunkForm {
@@ -93,13 +77,13 @@ pub fn code_size(schema: &Schema, code: u8) -> u16
     requires there { HasCode schema.now code }
     ensures { result ≡ code_size schema.now code }
 {
-    if code < FIRST_CHUNK {
+    if code < SET_CHUNK {
         members_size(schema.members_of(TypeNo(code)))
-    } else if code == DESCRIPTOR {
+    } else if code == INDEX_DESCRIPTOR {
         DESCRIPTOR_BYTES
     } else {
         let form = chunk_form(code);
-        ENTRIES_AT + form.entries * form.entry_size
+        ENTRIES_IN_CHUNK + form.entries * form.entry_size
     }
 }
 
@@ -112,9 +96,9 @@ pub fn next_pointer(schema: &Schema, code: u8, from: u16) -> Option<u16>
     requires there { HasCode schema.now code }
     ensures { result ≡ pointer_from schema.now code from }
 {
-    if code < FIRST_CHUNK {
+    if code < SET_CHUNK {
         next_in_type(schema.members_of(TypeNo(code)), from)
-    } else if code == DESCRIPTOR {
+    } else if code == INDEX_DESCRIPTOR {
         next_of_two(0, FIRST_CHUNK_AT, from)
     } else {
         next_in_chunk(code, from)
@@ -167,7 +151,7 @@ fn next_of_two(first: u16, second: u16, from: u16) -> Option<u16>
 
 /// The next pointer of a chunk.
 fn next_in_chunk(code: u8, from: u16) -> Option<u16>
-    requires { code ≢ descriptor_code }
+    requires { code ≢ INDEX_DESCRIPTOR }
     ensures { result ≡ find (λ place. nat_le from place) (chunk_pointers code) }
 {
     if from == 0 {
@@ -196,9 +180,9 @@ pub fn pointer_places(alloc: Global, schema: &Schema, code: u8) -> Result<Vec<u1
     ensures within { IfOk result (λ places. AreInCell schema.now code places.items) }
 {
     let mut places = Vec::new(alloc);
-    if code < FIRST_CHUNK {
+    if code < SET_CHUNK {
         push_type_pointers(&mut places, schema.members_of(TypeNo(code)))?;
-    } else if code == DESCRIPTOR {
+    } else if code == INDEX_DESCRIPTOR {
         places.push(0)?;
         places.push(FIRST_CHUNK_AT)?;
     } else {

@@ -9,10 +9,10 @@ ghost use Rattle.ostore_segments.specs.Edits.{IsRootAsked, root_row};
 ghost use Rattle.ostore_segments.specs.SchemaCells.{size_told};
 
 use crate::pages::Pages;
+use ostore_base::cell_codes::{SET_CHUNK, TEXT_INDEX_CHUNK};
 use ostore_base::{PageImage, PageList, PageNo};
 use ostore_page_tags::layout::{
     NAME_IN_ROOT, NAME_LENGTH_IN_ROOT, POINTER_IN_ROOT, ROOT_BYTES, ROOTS_AT, ROOTS_PAGE,
-    SET_CHUNK, TEXT_INDEX_CHUNK,
 };
 use ostore_schema_layout::{Schema, code_size};
 use std::convert::Infallible;

@@ -12,7 +12,8 @@ use Rattle.ostore_schema_layout.specs.declared.schema.Schema.{Schema}
 use Rattle.ostore_schema_layout.specs.declared.schema.MemberDef.{MemberDef}
 use Rattle.ostore_schema_layout.specs.declared.schema.MemberKind.{MemberKind}
 use Rattle.ostore_schema_layout.specs.declared.schema.MemberKind.TheVariants as kinds
-use Rattle.ostore_schema_layout.specs.Cells.{ChunkForm, HasCode, IsType, cell_size, chunk_of, chunk_pointers, chunk_size, code_size, descriptor_code, entry_pointers, in_fours, kind_size, places_from, pointers_of, pointers_of_kind, pointers_of_place, sizes}
+use Rattle.ostore_schema_layout.specs.Cells.{ChunkForm, HasCode, IsType, cell_size, chunk_of, chunk_pointers, chunk_size, code_size, entry_pointers, in_fours, kind_size, places_from, pointers_of, pointers_of_kind, pointers_of_place, sizes}
+use Rattle.ostore_base.specs.declared.cell_codes.TheConstants.{INDEX_DESCRIPTOR}
 use Rattle.ostore_schema_layout.specs.Numbers.{members_of}
 use Rattle.ostore_schema_layout.specs.Limits.{largest_cell}
 use Rattle.ostore_schema_layout.specs.Lawful.{IsLawful}
@@ -130,11 +131,11 @@ next_entry first size from start (suc count) passed h enough less = elim (cases_
       rw same (found_here from (first + size * start) start (start + suc count) _ reached (omega arith))
 ]
 
-pub pointers_of_chunk : (code : ℕ) → code ≢ descriptor_code → chunk_pointers code ≡ 0 ∷ entry_pointers (chunk_of code)
+pub pointers_of_chunk : (code : ℕ) → code ≢ INDEX_DESCRIPTOR → chunk_pointers code ≡ 0 ∷ entry_pointers (chunk_of code)
 pointers_of_chunk code apart = search (rules, tests)
 
 -- the next pointer of a chunk behind its first
-next_of_chunk : (code from passed : ℕ) → code ≢ descriptor_code → from ≢ 0 →
+next_of_chunk : (code from passed : ℕ) → code ≢ INDEX_DESCRIPTOR → from ≢ 0 →
     from - (8 + (chunk_of code).pointer_at) ≤ passed * (chunk_of code).entry_size →
     passed * (chunk_of code).entry_size < (from - (8 + (chunk_of code).pointer_at)) + (chunk_of code).entry_size →
     find (λ place. nat_le from place) (chunk_pointers code)
@@ -146,7 +147,7 @@ next_of_chunk code from passed apart some enough less =
     rw (pointers_of_chunk code apart) (passed_over from 0 _ (omega arith) ∙ (rw all at next))
 
 -- the same with the names that a reader of the form has
-next_of_form : (code from entries size first passed : ℕ) → code ≢ descriptor_code → from ≢ 0 →
+next_of_form : (code from entries size first passed : ℕ) → code ≢ INDEX_DESCRIPTOR → from ≢ 0 →
     entries ≡ (chunk_of code).entries → size ≡ (chunk_of code).entry_size → first ≡ 8 + (chunk_of code).pointer_at →
     passed ≡ div_ceil (from - first) size →
     find (λ place. nat_le from place) (chunk_pointers code) ≡ cond (nat_lt passed entries) (Some (first + size * passed)) None
@@ -159,14 +160,14 @@ next_of_form code from entries size first passed apart some is_entries is_size i
 there : (passed entries at : ℕ) → passed < entries → cond (nat_lt passed entries) (Some at) None ≡ Some at
 there passed entries at h = search (rules, tests)
 
-pub next_entry_there : (code from entries size first passed : ℕ) → code ≢ descriptor_code → from ≢ 0 →
+pub next_entry_there : (code from entries size first passed : ℕ) → code ≢ INDEX_DESCRIPTOR → from ≢ 0 →
     entries ≡ (chunk_of code).entries → size ≡ (chunk_of code).entry_size → first ≡ 8 + (chunk_of code).pointer_at →
     passed ≡ div_ceil (from - first) size → passed < entries →
     Some (first + size * passed) ≡ find (λ place. nat_le from place) (chunk_pointers code)
 next_entry_there code from entries size first passed apart some is_entries is_size is_first is_passed h =
     sym (next_of_form code from entries size first passed apart some is_entries is_size is_first is_passed ∙ there passed entries _ h)
 
-pub next_entry_missing : (code from entries size first passed : ℕ) → code ≢ descriptor_code → from ≢ 0 →
+pub next_entry_missing : (code from entries size first passed : ℕ) → code ≢ INDEX_DESCRIPTOR → from ≢ 0 →
     entries ≡ (chunk_of code).entries → size ≡ (chunk_of code).entry_size → first ≡ 8 + (chunk_of code).pointer_at →
     passed ≡ div_ceil (from - first) size → entries ≤ passed →
     None ≡ find (λ place. nat_le from place) (chunk_pointers code)
@@ -205,12 +206,12 @@ lie_in_form entries entry_size pointer_at h =
 ascends_chunk : (code : ℕ) → Ascends 0 (chunk_pointers code)
 ascends_chunk code =
     let form = chunk_of code in
-    one_of (Ascends 0) (code == descriptor_code) _ _ (omega arith, (omega arith, tt)) (ascends_form form.entries form.entry_size form.pointer_at (sound_form code).0)
+    one_of (Ascends 0) (code == INDEX_DESCRIPTOR) _ _ (omega arith, (omega arith, tt)) (ascends_form form.entries form.entry_size form.pointer_at (sound_form code).0)
 
 lie_in_chunk : (code : ℕ) → LieIn (chunk_size code) (chunk_pointers code)
 lie_in_chunk code =
     let form = chunk_of code in
-    both LieIn (code == descriptor_code) _ _ _ _ (omega arith, (omega arith, tt)) (lie_in_form form.entries form.entry_size form.pointer_at (sound_form code).1)
+    both LieIn (code == INDEX_DESCRIPTOR) _ _ _ _ (omega arith, (omega arith, tt)) (lie_in_form form.entries form.entry_size form.pointer_at (sound_form code).1)
 
 pub ascending_pointers : (schema : Schema) (code : ℕ) → IsStrictlyIncreasing (pointers_of schema code)
 ascending_pointers schema code = increasing 0 (pointers_of schema code) (one_of (Ascends 0) (nat_le 240 code) _ _ (ascends_chunk code) (ascends_type 0 (members_of schema code)))

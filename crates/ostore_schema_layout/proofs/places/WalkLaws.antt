@@ -2,7 +2,8 @@
 use Rattle.std.proofs.Common.{◌≡◌, ◌≢◌, ℕ, zero, suc, ◌+◌, ◌*◌, ◌≤◌, List, ◌∷◌, map, refl, sym, ap, arith, rules, tests}
 use Rattle.std.specs.List.{range_with_len}
 use Rattle.ostore_schema_layout.specs.declared.schema.Schema.{Schema}
-use Rattle.ostore_schema_layout.specs.Cells.{chunk_of, chunk_pointers, descriptor_code, pointers_of}
+use Rattle.ostore_schema_layout.specs.Cells.{chunk_of, chunk_pointers, pointers_of}
+use Rattle.ostore_base.specs.declared.cell_codes.TheConstants.{INDEX_DESCRIPTOR}
 use Rattle.ostore_schema_layout.specs.inside.PointersLeft.{pointers_from}
 use Rattle.ostore_schema_layout.proofs.places.PointerLaws.{pointers_of_chunk}
 
@@ -17,7 +18,7 @@ chunk_pointers_of : (schema : Schema) (code : ℕ) → 240 ≤ code → pointers
 chunk_pointers_of schema code h = search (rules, tests)
 
 -- what the walk over a chunk has to give at its start
-pub chunk_walk : (schema : Schema) (code at size entries : ℕ) (given : List ℕ) → 240 ≤ code → code ≢ descriptor_code → at ≡ 8 + (chunk_of code).pointer_at → size ≡ (chunk_of code).entry_size → entries ≡ (chunk_of code).entries →
+pub chunk_walk : (schema : Schema) (code at size entries : ℕ) (given : List ℕ) → 240 ≤ code → code ≢ INDEX_DESCRIPTOR → at ≡ 8 + (chunk_of code).pointer_at → size ≡ (chunk_of code).entry_size → entries ≡ (chunk_of code).entries →
     given ≡ 0 ∷ pointers_from at size entries → given ≡ pointers_of schema code
 chunk_walk schema code at size entries given high apart is_at is_size is_entries is_given =
     let form = chunk_of code in

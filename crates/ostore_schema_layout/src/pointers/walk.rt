@@ -7,7 +7,8 @@ ghost use Rattle.ostore_schema_layout.specs.Limits.{largest_cell};
 ghost use Rattle.ostore_schema_layout.specs.Lawful.{IsLawful};
 ghost use Rattle.ostore_schema_layout.specs.inside.PointersLeft.{found_pointers, member_pointers, pointer_found, pointers_from};
 
-use super::{DESCRIPTOR, FIRST_CHUNK, FIRST_CHUNK_AT, SET_DESCRIPTOR_AT, chunk_form};
+use super::{FIRST_CHUNK_AT, SET_DESCRIPTOR_AT, chunk_form};
+use ostore_base::cell_codes::{INDEX_DESCRIPTOR, SET_CHUNK};
 use crate::cells::kind_size;
 use crate::schema::{MemberDef, MemberKind, Schema, TypeNo};
 use std::marker::Model;
@@ -50,9 +51,9 @@ impl<'a> Pointers<'a> {
         requires there { HasCode schema.now code }
         ensures { result ≡ pointers_of schema.now code }
     {
-        if code < FIRST_CHUNK {
+        if code < SET_CHUNK {
             Pointers::of_members(schema.members_of(TypeNo(code)))
-        } else if code == DESCRIPTOR {
+        } else if code == INDEX_DESCRIPTOR {
             Pointers::of_entries(FIRST_CHUNK_AT, 0, 1)
         } else {
             let form = chunk_form(code);
