@@ -8,9 +8,9 @@ ghost use Rattle.ostore_schema_layout.specs.Lawful.{IsLawful};
 ghost use Rattle.ostore_schema_layout.specs.inside.PointersLeft.{found_pointers, member_pointers, pointer_found, pointers_from};
 
 use super::{FIRST_CHUNK_AT, SET_DESCRIPTOR_AT, chunk_form};
-use ostore_base::cell_codes::{INDEX_DESCRIPTOR, SET_CHUNK};
 use crate::cells::kind_size;
 use crate::schema::{MemberDef, MemberKind, Schema, TypeNo};
+use ostore_base::cell_codes::{INDEX_DESCRIPTOR, SET_CHUNK};
 use std::marker::Model;
 
 /// A walk over the places of a cell's pointers, ascending, which takes no memory and goes through the
