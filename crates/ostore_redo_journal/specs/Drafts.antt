@@ -18,6 +18,6 @@ pub record Draft : Type 0 where
 abbrev pub Ascends : Writes → Type 0
 Ascends = AllPairs (λ (earlier later : PageNo × PageImage). earlier.0.0 < later.0.0)
 
--- the page is above all of them
+-- the page, or the count of pages, is above all of them
 abbrev pub IsAbove : Writes → ℕ → Type 0
 IsAbove writes page = All (λ (write : PageNo × PageImage). write.0.0 < page) writes

@@ -1,1 +1,3 @@
 pub mod Room
+pub mod Bytes
+pub mod Steps

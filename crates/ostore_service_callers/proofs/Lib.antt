@@ -1,1 +1,2 @@
 pub mod ServiceLaws
+pub mod SumLaws

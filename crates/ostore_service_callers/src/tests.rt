@@ -8,7 +8,7 @@ ghost use Rattle.ostore_service_callers.specs.Held.{HoldsNone};
 use super::*;
 use ostore_base::{ClientNo, MemDisk, OutOfMemory, PageImage, PageList, PageNo};
 use ostore_page_service::{Busy, Claim, PageClaims, Released, SeqServer, Word};
-use ostore_redo_journal::Journal;
+use ostore_redo_journal::counting::Journal;
 use std::alloc::Global;
 use std::process::Abort;
 use std::test::Fail;

@@ -1,10 +1,19 @@
 -- What stands in every record.
-use Rattle.std.specs.Prelude.{ℕ, ◌<◌, ◌≤◌, ◌^◌, length}
-use Rattle.ostore_redo_journal.specs.Drafts.{Writes, Ascends}
+use Rattle.std.specs.Prelude.{◌≡◌, ℕ, ◌+◌, ◌*◌, ◌<◌, ◌≤◌, ◌^◌, List, length, drop}
+use Rattle.ostore_redo_journal.specs.Drafts.{Draft, Ascends}
+use Rattle.ostore_redo_journal.specs.Records.{pages_of, AreWhole}
 
--- a record with this room and this capacity
-pub record IsRecord (room capacity : ℕ) (pages : Writes) : Type 0 where
-  pub within : length pages ≤ room
+-- a record with this room and so many pages has these bytes
+pub record IsStored (room count : ℕ) (bytes : List ℕ) : Type 0 where
+  pub within : count ≤ room
   pub low : room < 2 ^ 16
-  pub reserved : room ≤ capacity
-  pub ascends : Ascends pages
+  pub size : length bytes ≡ 22 + 4100 * room
+  pub ascends : Ascends (pages_of count (drop 21 bytes))
+
+-- what a record says fits its bytes
+pub record IsFit (draft : Draft) : Type 0 where
+  pub client : draft.client < 2 ^ 16
+  pub ordinal : draft.ordinal < 2 ^ 32
+  pub count : length draft.pages < 2 ^ 16
+  pub whole : AreWhole draft.pages
+  pub ascends : Ascends draft.pages

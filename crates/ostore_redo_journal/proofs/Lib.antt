@@ -1,0 +1,12 @@
+pub mod Pieces
+pub mod RoundTrips
+pub mod Stored
+pub mod Ascending
+pub mod Appends
+pub mod Scans
+pub mod Told
+pub mod Orders
+pub mod Unique
+pub mod Refused
+pub mod LastLaws
+pub mod Slots
