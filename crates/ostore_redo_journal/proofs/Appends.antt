@@ -131,18 +131,18 @@ module _ (h : Header) (s : Scan) (rs : List Logged) (r : Logged) (number : ℕ) 
       sized = omega (arith, end, opened.end, length-append pre (1 ∷ (body ++ [])), length-append body [], length-append body (0 ∷ []))
 
 -- the same of a disk that may not tell
-pub told_leaves : (told : Option (List ℕ)) (h : Header) (s : Scan) (rs : List Logged) (r : Logged) (number : ℕ) (behind : List ℕ) → IfSome told (λ held. IsOpened held h s rs) → number ≡ h.base + s.records + 1 → IsLawful h.pages r
-    → behind ≡ behind_gate h.generation number r ++ 0 ∷ [] → (c : List ℕ) → OfTold told (IsTornAtGate s.end behind) c → OfTold told (λ _ b. IsBeforeOrAfter h rs r b) c
-told_leaves None h s rs r number behind reads counts right is c torn = tt
-told_leaves (Some held) h s rs r number behind reads counts right is c torn =
+pub told_leaves : (told : Option (List ℕ)) (h : Header) (s : Scan) (rs : List Logged) (r : Logged) (number : ℕ) (bytes : List ℕ) → IfSome told (λ held. IsOpened held h s rs) → number ≡ h.base + s.records + 1 → IsLawful h.pages r
+    → bytes ≡ behind_gate h.generation number r ++ 0 ∷ [] → (c : List ℕ) → OfTold told (IsTornAtGate s.end bytes) c → OfTold told (λ _ b. IsBeforeOrAfter h rs r b) c
+told_leaves None h s rs r number bytes reads counts right is c torn = tt
+told_leaves (Some held) h s rs r number bytes reads counts right is c torn =
     append_leaves h s rs r number held reads counts right c (subst (λ (l : List ℕ). IsTornAtGate s.end l held c) is torn)
 
-pub told_reads : (told new : Option (List ℕ)) (h : Header) (s now : Scan) (rs : List Logged) (r : Logged) (number : ℕ) (behind : List ℕ) → IfSome told (λ held. IsOpened held h s rs) → number ≡ h.base + s.records + 1 → IsLawful h.pages r
-    → behind ≡ behind_gate h.generation number r ++ 0 ∷ [] → now.records ≡ s.records + 1 → now.end ≡ s.end + length behind → new ≡ option_map (opened_at s.end behind) told → IfSome new (λ held. IsOpened held h now (rs ++ r ∷ []))
-told_reads None new h s now rs r number behind reads counts right is records end written = subst (λ (o : Option (List ℕ)). IfSome o (λ held. IsOpened held h now (rs ++ r ∷ []))) (sym written) tt
-told_reads (Some held) new h s now rs r number behind reads counts right is records end written =
+pub told_reads : (told new : Option (List ℕ)) (h : Header) (s now : Scan) (rs : List Logged) (r : Logged) (number : ℕ) (bytes : List ℕ) → IfSome told (λ held. IsOpened held h s rs) → number ≡ h.base + s.records + 1 → IsLawful h.pages r
+    → bytes ≡ behind_gate h.generation number r ++ 0 ∷ [] → now.records ≡ s.records + 1 → now.end ≡ s.end + length bytes → new ≡ option_map (opened_at s.end bytes) told → IfSome new (λ held. IsOpened held h now (rs ++ r ∷ []))
+told_reads None new h s now rs r number bytes reads counts right is records end written = subst (λ (o : Option (List ℕ)). IfSome o (λ held. IsOpened held h now (rs ++ r ∷ []))) (sym written) tt
+told_reads (Some held) new h s now rs r number bytes reads counts right is records end written =
     let all = behind_gate h.generation number r ++ 0 ∷ [] in
     let size : now.end ≡ s.end + length all = end ∙ ap (λ (l : List ℕ). s.end + length l) is in
-    let bytes : replaced s.end (1 ∷ []) (replaced (s.end + 1) behind held) ≡ replaced s.end (1 ∷ []) (replaced (s.end + 1) all held) = ap (λ (l : List ℕ). replaced s.end (1 ∷ []) (replaced (s.end + 1) l held)) is in
+    let written_so : replaced s.end (1 ∷ []) (replaced (s.end + 1) bytes held) ≡ replaced s.end (1 ∷ []) (replaced (s.end + 1) all held) = ap (λ (l : List ℕ). replaced s.end (1 ∷ []) (replaced (s.end + 1) l held)) is in
     subst (λ (o : Option (List ℕ)). IfSome o (λ b. IsOpened b h now (rs ++ r ∷ []))) (sym written)
-    (opened_next h s rs r number held reads counts right now _ records size (bytes ∙ appended h s rs r number held reads counts right))
+    (opened_next h s rs r number held reads counts right now _ records size (written_so ∙ appended h s rs r number held reads counts right))

@@ -10,3 +10,4 @@ pub mod Unique
 pub mod Refused
 pub mod LastLaws
 pub mod Slots
+pub mod Listings

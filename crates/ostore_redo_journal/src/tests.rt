@@ -4,12 +4,13 @@ ghost use Rattle.ostore_redo_journal.specs.Order.{IsInOrder};
 
 use super::*;
 use crate::scanning::scan;
-use ostore_base::{ClientNo, Disk, FileDisk, MemDisk, PageImage, PageNo};
+use ostore_base::{ClientNo, Disk, MemDisk, PageImage, PageNo};
 use std::alloc::Global;
 use std::test::Fail;
 
 mod crashes;
 mod headers;
+mod histories;
 mod records;
 
 /// An image whose bytes are all the same.

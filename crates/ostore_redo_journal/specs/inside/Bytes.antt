@@ -1,5 +1,6 @@
 -- The bytes behind a gate, as the code judges them.
 use Rattle.std.specs.Prelude.{◌≡◌, ℕ, ◌<◌, List, get_or, drop}
+use Rattle.ostore_redo_journal.specs.declared.listing.Item.{Item}
 use Rattle.ostore_redo_journal.specs.Records.{Logged, u16_at, u32_at, u64_at, pages_of, AreAscending}
 
 -- the bytes, with the count that they say, are those of a lawful record
@@ -19,3 +20,12 @@ pub record IsCounted (pages generation number count : ℕ) (bytes : List ℕ) : 
 abbrev pub logged_in : ℕ → ℕ → ℕ → List ℕ → Logged
 logged_in client ordinal count bytes =
     record { client = client; ordinal = ordinal; pages = pages_of count (drop 21 bytes) }
+
+-- what the first 21 bytes of the record with this commit number say, its gate among them
+abbrev pub item_in : ℕ → List ℕ → Item
+item_in number bytes = record {
+  number = number;
+  client = record { 0 = u16_at bytes 13 };
+  ordinal = u32_at bytes 15;
+  pages = u16_at bytes 19;
+}

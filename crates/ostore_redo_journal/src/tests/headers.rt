@@ -74,3 +74,14 @@ fn a_header_is_refused_in_order(rt: HostRuntime) -> Result<(), Fail> {
     assert_eq!(rt; header_at(alloc, 86017, &[slot])?, want);
     Ok(())
 }
+
+#[test]
+fn each_failed_read_of_a_header_is_answered(rt: HostRuntime) -> Result<(), Fail> {
+    let alloc = rt.alloc();
+    // The length, and the first bytes.
+    for call in [1, 2] {
+        let mut disk = MemDisk::new(database(alloc)?, [call].to_vec(alloc)?);
+        assert_eq!(rt; read_header(&mut disk), Err(HeaderFault::DiskFault));
+    }
+    Ok(())
+}

@@ -64,11 +64,11 @@ fn empty_record(generation: u8, number: u8, ordinal: u8, count: u8) -> [u8; 21] 
 }
 
 /// What a scan of a database of 20 pages at generation 2 with base 0 finds, with these bytes at the
-/// journal's place.
-fn scanned(alloc: Global, log: &[u8]) -> Result<Result<Scan, ScanFault>, Fail> {
+/// journal's place, where the disk's call of this number fails.
+fn scanned_failing(alloc: Global, log: &[u8], call: u64) -> Result<Result<Scan, ScanFault>, Fail> {
     let mut bytes = bytes_with(alloc, 86016, &FRESH)?;
     bytes.extend_from_slice(log)?;
-    let mut disk = MemDisk::new(bytes, Vec::new(alloc));
+    let mut disk = MemDisk::new(bytes, [call].to_vec(alloc)?);
     let header = Header {
         pages: 20,
         generation: 2,
@@ -79,6 +79,11 @@ fn scanned(alloc: Global, log: &[u8]) -> Result<Result<Scan, ScanFault>, Fail> {
     } else {
         Err(ScanFault::DiskFault)
     })
+}
+
+/// The same, where no call fails.
+fn scanned(alloc: Global, log: &[u8]) -> Result<Result<Scan, ScanFault>, Fail> {
+    scanned_failing(alloc, log, 0)
 }
 
 /// So many records, and the place of the gate behind them.
@@ -135,6 +140,19 @@ fn an_open_gate_without_its_record_is_bad(rt: HostRuntime) -> Result<(), Fail> {
     }
     let want = Err(ScanFault::BadRecord { at: 86016 });
     assert_eq!(rt; scanned(alloc, &[1, 1, 0, 0])?, want);
+    Ok(())
+}
+
+#[test]
+fn each_failed_read_of_a_record_is_answered(rt: HostRuntime) -> Result<(), Fail> {
+    let alloc = rt.alloc();
+    let log = bytes_with(alloc, 22, &[(0, &empty_record(2, 1, 1, 0))])?;
+    // The length, the gate, the generation, the count, the record, and the gate behind it.
+    for call in [1, 2, 3, 4, 5, 6] {
+        let want = Err(ScanFault::DiskFault);
+        assert_eq!(rt; scanned_failing(alloc, &log, call)?, want);
+    }
+    assert_eq!(rt; scanned_failing(alloc, &log, 7)?, found(1, 86037));
     Ok(())
 }
 
