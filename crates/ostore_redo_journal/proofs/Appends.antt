@@ -6,7 +6,7 @@ use Rattle.std.proofs.lemmas.Bool.{cases_eq}
 use Rattle.ostore_base.specs.Disk.{replaced}
 use Rattle.std.specs.Option.{option_map}
 use Rattle.ostore_base.specs.Disk.{IsTornRange}
-use Rattle.ostore_base.specs.Images.{OfTold, IsTornAtGate, opened_at}
+use Rattle.ostore_base.specs.Images.{IsSure, OfTold, IsTornAtGate, opened_at}
 use Rattle.ostore_redo_journal.specs.Records.{Logged, behind_gate, log_bytes, IsLawful}
 use Rattle.ostore_redo_journal.specs.declared.header.Header.{Header}
 use Rattle.ostore_redo_journal.specs.declared.header.Scan.{Scan}
@@ -146,3 +146,16 @@ told_reads (Some held) new h s now rs r number bytes reads counts right is recor
     let written_so : replaced s.end (1 ∷ []) (replaced (s.end + 1) bytes held) ≡ replaced s.end (1 ∷ []) (replaced (s.end + 1) all held) = ap (λ (l : List ℕ). replaced s.end (1 ∷ []) (replaced (s.end + 1) l held)) is in
     subst (λ (o : Option (List ℕ)). IfSome o (λ b. IsOpened b h now (rs ++ r ∷ []))) (sym written)
     (opened_next h s rs r number held reads counts right now _ records size (written_so ∙ appended h s rs r number held reads counts right))
+
+-- a crash leaves the records of a disk that is sure of them
+pub survives : (told : Option (List ℕ)) (images : List ℕ → Type 0) (h : Header) (s : Scan) (rs : List Logged) → IsSure told images → IfSome told (λ held. IsOpened held h s rs) → (image : List ℕ) → images image → OfTold told (λ _ b. ReadsAs b h rs) image
+survives None images h s rs sure opened image left = tt
+survives (Some held) images h s rs sure opened image left = subst (λ (l : List ℕ). ReadsAs l h rs) (sym (sure image left)) (record {
+  front = opened.front;
+  rest = opened.rest;
+  split = opened.split;
+  size = opened.size;
+  says = opened.says;
+  lawful = opened.lawful;
+  ends = inl opened.closed;
+})

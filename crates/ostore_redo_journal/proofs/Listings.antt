@@ -39,7 +39,7 @@ items_of-push n number [] r is = let same : n + 1 ≡ number = omega (arith, is)
 items_of-push n number (x ∷ rs) r is = ap (λ (l : List Item). item_of (n + 1) x ∷ l) (items_of-push (n + 1) number rs r (omega (arith, is)))
 
 -- what stands at the place of a record
-item_read : (h : Header) (number : ℕ) (r : Logged) (more : List ℕ) → h.pages ≤ 2 ^ 32 → IsLawful h.pages r → item_in number (take 21 (record_bytes h.generation number r ++ more)) ≡ item_of number r
+item_read : (h : Header) (number : ℕ) (r : Logged) (more : List ℕ) → h.pages ≤ 2 ^ 32 → IsLawful h.pages r → item_in number (drop 1 (take 21 (record_bytes h.generation number r ++ more))) ≡ item_of number r
 item_read h number r more fits lawful =
     let same = record_same h.pages h.generation number r fits lawful in
     let client = ap (λ (x : Logged). x.client) same in
@@ -109,14 +109,14 @@ module _ (held : List ℕ) (h : Header) (scan : Scan) (rs : List Logged) (opened
       let n = next below in
       omega (arith, at_pre, size_of n, n.before_end, opened.before)
 
-  item_is : (n : Next) → h.pages ≤ 2 ^ 32 → item_in number (take 21 (drop at held)) ≡ item_of number n.r
+  item_is : (n : Next) → h.pages ≤ 2 ^ 32 → item_in number (drop 1 (take 21 (drop at held))) ≡ item_of number n.r
   item_is n fits =
       let here : drop at held ≡ record_bytes g number n.r ++ (log_bytes g number n.later ++ opened.rest) =
       ap (drop at) n.split ∙ drop_at pre (record_bytes g number n.r ++ (log_bytes g number n.later ++ opened.rest)) at (sym at_pre) in
-      ap (λ (l : List ℕ). item_in number (take 21 l)) here ∙ item_read h number n.r (log_bytes g number n.later ++ opened.rest) fits n.lawful
+      ap (λ (l : List ℕ). item_in number (drop 1 (take 21 l))) here ∙ item_read h number n.r (log_bytes g number n.later ++ opened.rest) fits n.lawful
 
   -- one record more
-  pub one_more : (item : Item) (then : ℕ) → h.pages ≤ 2 ^ 32 → scan.end ≤ longest_disk → done < scan.records → item ≡ item_in number (take 21 (drop at held)) → then ≡ min (at + (21 + 4100 * item.pages)) (2 ^ 64 - 1)
+  pub one_more : (item : Item) (then : ℕ) → h.pages ≤ 2 ^ 32 → scan.end ≤ longest_disk → done < scan.records → item ≡ item_in number (drop 1 (take 21 (drop at held))) → then ≡ min (at + (21 + 4100 * item.pages)) (2 ^ 64 - 1)
       → AreListed h rs (done + 1) then (items ++ item ∷ [])
   one_more item then fits short below is moves =
       let n = next below in
@@ -156,10 +156,10 @@ told_roomy (Some held) now h scan rs done at items same opened so_far below =
     subst (λ (o : Option (List ℕ)). IfSome o (λ held. at + 21 ≤ length held)) (sym same) (roomy held h scan rs opened done at items (so_far rs opened) below)
 
 pub told_more : (told now : Option (List ℕ)) (h : Header) (scan : Scan) (done at then : ℕ) (items new : List Item) (item : Item) → now ≡ told → h.pages ≤ 2 ^ 32 → scan.end ≤ longest_disk → done < scan.records
-    → IfSome now (λ held. item ≡ item_in (h.base + done + 1) (take 21 (drop at held))) → then ≡ min (at + (21 + 4100 * item.pages)) (2 ^ 64 - 1) → new ≡ items ++ item ∷ [] → ListsUpTo told h scan done at items → ListsUpTo told h scan (done + 1) then new
+    → IfSome now (λ held. item ≡ item_in (h.base + done + 1) (drop 1 (take 21 (drop at held)))) → then ≡ min (at + (21 + 4100 * item.pages)) (2 ^ 64 - 1) → new ≡ items ++ item ∷ [] → ListsUpTo told h scan done at items → ListsUpTo told h scan (done + 1) then new
 told_more None now h scan done at then items new item same fits short below is moves pushed so_far = tt
 told_more (Some held) now h scan done at then items new item same fits short below is moves pushed so_far = λ rs opened.
-    let here : item ≡ item_in (h.base + done + 1) (take 21 (drop at held)) = subst (λ (o : Option (List ℕ)). IfSome o (λ b. item ≡ item_in (h.base + done + 1) (take 21 (drop at b)))) same is in
+    let here : item ≡ item_in (h.base + done + 1) (drop 1 (take 21 (drop at held))) = subst (λ (o : Option (List ℕ)). IfSome o (λ b. item ≡ item_in (h.base + done + 1) (drop 1 (take 21 (drop at b))))) same is in
     subst (λ (l : List Item). AreListed h rs (done + 1) then l) (sym pushed) (one_more held h scan rs opened done at items (so_far rs opened) item then fits short below here moves)
 
 pub told_all : (told : Option (List ℕ)) (h : Header) (scan : Scan) (done at : ℕ) (items : List Item) → done ≡ scan.records → ListsUpTo told h scan done at items → Lists told h scan items

@@ -95,7 +95,7 @@ page_at (suc k) (suc at) bs below =
     page_at k at (drop 4100 bs) (omega arith) ∙ (λ i. Some (record { 0 = Rattle.std.specs.Int.from_le_bytes w32 (take 4 (one i)) }, record { bytes = take 4096 (two i) }))
 
 -- a page is added
-pub grown : (k room : ℕ) (bytes new : List ℕ) (page : PageNo) (image : PageImage) → length bytes ≡ 22 + 4100 * room → k < room → page.0 < 2 ^ 32 → length image.bytes ≡ 4096 → new ≡ replaced (21 + 4100 * k) (page_bytes (page, image)) bytes → pages_of (k + 1) (drop 21 new) ≡ pages_of k (drop 21 bytes) ++ (page, image) ∷ []
+pub grown : (k room : ℕ) (bytes new : List ℕ) (page : PageNo) (image : PageImage) → length bytes ≡ 21 + 4100 * room + 1 → k < room → page.0 < 2 ^ 32 → length image.bytes ≡ 4096 → new ≡ replaced (21 + 4100 * k) (page_bytes (page, image)) bytes → pages_of (k + 1) (drop 21 new) ≡ pages_of k (drop 21 bytes) ++ (page, image) ∷ []
 grown k room bytes new page image size below small whole is =
     let m = 4100 * k in
     let body = drop 21 bytes in

@@ -1,5 +1,5 @@
 -- Steps of reading, of a disk that may not tell its bytes.
-use Rattle.std.proofs.Common.{◌≡◌, ℕ, ◌+◌, ◌-◌, ◌*◌, ◌<◌, ◌^◌, List, [], ◌∷◌, ◌++◌, length, take, drop, Option, Some, None, IfSome, sym, ◌∙◌, ap, subst, arith, append_assoc, length-append, length-drop, take-append-drop}
+use Rattle.std.proofs.Common.{◌≡◌, ℕ, ◌+◌, ◌-◌, ◌*◌, ◌<◌, ◌≤◌, ◌^◌, List, [], ◌∷◌, ◌++◌, length, take, drop, Option, Some, None, IfSome, sym, ◌∙◌, ap, subst, arith, append_assoc, length-append, length-drop, take-append-drop}
 use Rattle.std.proofs.lemmas.List.{drop_at, append-nil, drop-take, take-take}
 use Rattle.std.specs.Int.{w16, from_le_bytes}
 use Rattle.std.proofs.lemmas.List.Elements.{All-append, All-cons, All-nil}
@@ -19,21 +19,21 @@ Long told size = IfSome told (λ held. size ≡ length held)
 abbrev pub GoesOn : Option (List ℕ) → Header → Scan → Type 0
 GoesOn told h s = IfSome told (λ held. IsEnd h s.records (drop s.end held) → ⊥)
 
-pub told_short : (told : Option (List ℕ)) (h : Header) (s : Scan) (size : ℕ) → Long told size → GoesOn told h s → size - s.end < 22 → IfSome told (λ held. IsBad h s.records (drop s.end held))
+pub told_short : (told : Option (List ℕ)) (h : Header) (s : Scan) (size : ℕ) → Long told size → GoesOn told h s → size - s.end ≤ 21 → IfSome told (λ held. IsBad h s.records (drop s.end held))
 told_short None h s size long more short = tt
 told_short (Some held) h s size long more short = bad_short h s.records (drop s.end held) more (omega (arith, length-drop s.end held))
 
 abbrev two : List ℕ → ℕ
 two bs = from_le_bytes w16 (take 2 bs)
 
--- the count stands 19 bytes behind the gate's place
-count_at : (held : List ℕ) (end : ℕ) → u16_at held (end + 19) ≡ u16_at (take 20 (drop 1 (drop end held))) 18
+-- the count stands 18 bytes behind the gate
+count_at : (held : List ℕ) (end : ℕ) → u16_at held (end + 1 + 18) ≡ u16_at (take 20 (drop 1 (drop end held))) 18
 count_at held end =
     let bs = drop end held in
     let inner : take 2 (drop 18 (take 20 (drop 1 bs))) ≡ take 2 (drop 18 (drop 1 bs)) = ap (take 2) (drop-take 18 2 (drop 1 bs)) ∙ take-take 2 2 (drop 18 (drop 1 bs)) (omega arith) in
-    ap two (sym (drop_drop 19 end held)) ∙ ap two (sym (drop_drop 18 1 bs)) ∙ ap (from_le_bytes w16) (sym inner)
+    ap two (sym (drop_drop 18 (end + 1) held)) ∙ ap (λ (l : List ℕ). two (drop 18 l)) (sym (drop_drop 1 end held)) ∙ ap (from_le_bytes w16) (sym inner)
 
-pub told_long : (told : Option (List ℕ)) (h : Header) (s : Scan) (size count : ℕ) → Long told size → GoesOn told h s → IfSome told (λ held. count ≡ u16_at held (s.end + 19)) → size - s.end < 22 + 4100 * count → IfSome told (λ held. IsBad h s.records (drop s.end held))
+pub told_long : (told : Option (List ℕ)) (h : Header) (s : Scan) (size count : ℕ) → Long told size → GoesOn told h s → IfSome told (λ held. count ≡ u16_at held (s.end + 1 + 18)) → size - s.end ≤ 21 + 4100 * count → IfSome told (λ held. IsBad h s.records (drop s.end held))
 told_long None h s size count long more counts short = tt
 told_long (Some held) h s size count long more counts short = bad_long h s.records (drop s.end held) more count (counts ∙ count_at held s.end) (omega (arith, length-drop s.end held))
 
@@ -41,7 +41,7 @@ told_long (Some held) h s size count long more counts short = bad_long h s.recor
 behind_at : (held : List ℕ) (end n : ℕ) → take n (drop (end + 1) held) ≡ take n (drop 1 (drop end held))
 behind_at held end n = ap (take n) (sym (drop_drop 1 end held))
 
-pub told_bad : (told mid : Option (List ℕ)) (h : Header) (s : Scan) (count : ℕ) → mid ≡ told → h.pages < 2 ^ 32 → h.generation < 2 ^ 32 → h.base + s.records + 1 < 2 ^ 64 → GoesOn told h s → IfSome told (λ held. count ≡ u16_at held (s.end + 19))
+pub told_bad : (told mid : Option (List ℕ)) (h : Header) (s : Scan) (count : ℕ) → mid ≡ told → h.pages < 2 ^ 32 → h.generation < 2 ^ 32 → h.base + s.records + 1 < 2 ^ 64 → GoesOn told h s → IfSome told (λ held. count ≡ u16_at held (s.end + 1 + 18))
     → IfSome mid (λ held. u16_at (take (20 + 4100 * count) (drop (s.end + 1) held)) 18 ≡ count → IsRecord h.pages h.generation (h.base + s.records + 1) (take (20 + 4100 * count) (drop (s.end + 1) held)) → ⊥)
     → IfSome told (λ held. IsBad h s.records (drop s.end held))
 told_bad None mid h s count same pages generation number more counts none = tt
@@ -51,13 +51,13 @@ told_bad (Some held) mid h s count same pages generation number more counts none
     bad_bytes h s.records (drop s.end held) more count (omega arith) generation number (counts ∙ count_at held s.end)
     (λ right. wrong (count_in held s.end count counts) (subst (λ (l : List ℕ). IsRecord h.pages h.generation (h.base + s.records + 1) l) (sym bytes) right))
   where
-    count_in : (held : List ℕ) (end count : ℕ) → count ≡ u16_at held (end + 19) → u16_at (take (20 + 4100 * count) (drop (end + 1) held)) 18 ≡ count
+    count_in : (held : List ℕ) (end count : ℕ) → count ≡ u16_at held (end + 1 + 18) → u16_at (take (20 + 4100 * count) (drop (end + 1) held)) 18 ≡ count
     count_in held end count counts =
         let bs = drop (end + 1) held in
         let plus : 20 + 4100 * count ≡ 18 + (2 + 4100 * count) = omega arith in
         let inner : take 2 (drop 18 (take (20 + 4100 * count) bs)) ≡ take 2 (drop 18 bs) =
         ap (λ (k : ℕ). take 2 (drop 18 (take k bs))) plus ∙ ap (take 2) (drop-take 18 (2 + 4100 * count) bs) ∙ take-take 2 (2 + 4100 * count) (drop 18 bs) (omega arith) in
-        let place : drop 18 bs ≡ drop (end + 19) held = drop_drop 18 (end + 1) held ∙ ap (λ (k : ℕ). drop k held) (let e : end + 1 + 18 ≡ end + 19 = omega arith in e) in
+        let place : drop 18 bs ≡ drop (end + 1 + 18) held = drop_drop 18 (end + 1) held in
         ap (from_le_bytes w16) inner ∙ ap two place ∙ sym counts
 
 pub told_good : (told mid : Option (List ℕ)) (h : Header) (s : Scan) (count size : ℕ) → mid ≡ told → size ≡ 21 + 4100 * count → GoesOn told h s

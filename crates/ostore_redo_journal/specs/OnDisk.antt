@@ -1,7 +1,8 @@
 -- What a disk's bytes stand for.
 use Rattle.std.specs.Prelude.{◌≡◌, ◌≢◌, ◌⊎◌, ℕ, ◌+◌, ◌<◌, ◌≤◌, List, [], ◌∷◌, ◌++◌, length, take, drop, All}
+use Rattle.ostore_redo_journal.specs.declared.layout.TheConstants.{GENERATION_IN_HEAD, NUMBER_IN_HEAD}
 use Rattle.ostore_redo_journal.specs.Records.{Logged, record_bytes, log_bytes, IsLawful, u32_at}
-use Rattle.ostore_redo_journal.specs.Headers.{HasHeader, journal_at}
+use Rattle.ostore_redo_journal.specs.Headers.{HasHeader, journal_at, front_of}
 use Rattle.ostore_redo_journal.specs.declared.header.Header.{Header}
 use Rattle.ostore_redo_journal.specs.declared.header.Scan.{Scan}
 
@@ -12,7 +13,8 @@ IsClosed rest = (gate : ℕ) × (behind : List ℕ) × (rest ≡ gate ∷ behind
 -- an open gate of an older generation, which ends a journal without records
 abbrev pub IsOld : ℕ → List ℕ → Type 0
 IsOld generation rest =
-    (behind : List ℕ) × (rest ≡ 1 ∷ behind) × (4 ≤ length behind) × (u32_at behind 0 < generation)
+    (behind : List ℕ) × (rest ≡ 1 ∷ behind) × (NUMBER_IN_HEAD ≤ length behind)
+    × (u32_at behind GENERATION_IN_HEAD < generation)
 
 -- what stands at the end of a journal with so many records
 abbrev pub IsEnd : Header → ℕ → List ℕ → Type 0
@@ -24,7 +26,7 @@ pub record ReadsAs (bytes : List ℕ) (header : Header) (rs : List Logged) : Typ
   pub rest : List ℕ
   pub split : bytes ≡ front ++ log_bytes header.generation header.base rs ++ rest
   pub size : length front ≡ journal_at header
-  pub says : HasHeader (take 4096 front) header
+  pub says : HasHeader (front_of front) header
   pub lawful : All (IsLawful header.pages) rs
   pub ends : IsEnd header (length rs) rest
 
@@ -34,7 +36,7 @@ pub record IsOpened (bytes : List ℕ) (header : Header) (scan : Scan) (rs : Lis
   pub rest : List ℕ
   pub split : bytes ≡ front ++ log_bytes header.generation header.base rs ++ rest
   pub size : length front ≡ journal_at header
-  pub says : HasHeader (take 4096 front) header
+  pub says : HasHeader (front_of front) header
   pub lawful : All (IsLawful header.pages) rs
   pub closed : IsClosed rest
   pub records : scan.records ≡ length rs

@@ -1,10 +1,10 @@
 -- When a journal is in order.
 use Rattle.std.specs.Prelude.{◌≡◌, ℕ, ◌+◌, ◌≤◌, ◌<◌, List, length, Option, IfSome, None}
 use Rattle.ostore_base.specs.Limits.{least_pages, most_pages, longest_disk}
-use Rattle.ostore_base.specs.Images.{IsSure}
+use Rattle.ostore_base.specs.Images.{IsSure, OfTold}
 use Rattle.ostore_redo_journal.specs.Limits.{greatest_base}
 use Rattle.ostore_redo_journal.specs.Records.{Logged}
-use Rattle.ostore_redo_journal.specs.OnDisk.{IsOpened}
+use Rattle.ostore_redo_journal.specs.OnDisk.{IsOpened, ReadsAs}
 use Rattle.ostore_redo_journal.specs.declared.journal.Journal.{Journal}
 
 -- the number of the last commit that was acknowledged
@@ -15,6 +15,12 @@ last_number journal = journal.header.base + journal.scan.records
 abbrev pub Reads : {D : Type 0} → (D → Option (List ℕ)) → Journal D → List Logged → Type 0
 Reads content journal rs =
     IfSome (content journal.disk) (λ held. IsOpened held journal.header journal.scan rs)
+
+-- whatever a crash leaves of its disk now reads as its header and these records, where the disk tells
+abbrev pub LeavesRecords : {D : Type 0} → (D → Option (List ℕ)) → (D → List ℕ → Type 0) → Journal D → List Logged → Type 0
+LeavesRecords content may_leave journal rs =
+    (image : List ℕ) → may_leave journal.disk image
+    → OfTold (content journal.disk) (λ _ bytes. ReadsAs bytes journal.header rs) image
 
 -- Its numbers are within the limits. Where it hasn't stopped, its disk has its header and records and
 -- is sure of them; where it has, it stopped after the last acknowledged number.

@@ -1,8 +1,10 @@
 -- Records of commits, and their bytes in the journal. Numbers are little-endian.
-use Rattle.std.specs.Prelude.{◌≡◌, ℕ, zero, suc, ◌+◌, ◌<◌, ◌≤◌, ◌^◌, List, [], ◌∷◌, ◌++◌, length, take, drop, flat_map, ⊤}
+use Rattle.std.specs.Prelude.{◌≡◌, ℕ, zero, suc, ◌+◌, ◌*◌, ◌<◌, ◌≤◌, ◌^◌, List, [], ◌∷◌, ◌++◌, length, take, drop, flat_map, ⊤}
 use Rattle.std.specs.Int.{w16, w32, w64, to_le_bytes, from_le_bytes}
 use Rattle.ostore_base.specs.declared.numbers.PageNo.{PageNo}
 use Rattle.ostore_base.specs.declared.page.PageImage.{PageImage}
+use Rattle.ostore_base.specs.declared.page.TheConstants.{PAGE_SIZE}
+use Rattle.ostore_redo_journal.specs.declared.layout.TheConstants.{CLIENT_IN_HEAD, ORDINAL_IN_HEAD, COUNT_IN_HEAD, HEAD_BYTES, IMAGE_IN_LOGGED, LOGGED_BYTES, PAGES_IN_RECORD}
 use Rattle.ostore_redo_journal.specs.Drafts.{Writes, Draft}
 
 -- the transaction of a client, and the images that it wrote
@@ -19,7 +21,7 @@ logged draft = record { client = draft.client; ordinal = draft.ordinal; pages = 
 abbrev pub page_bytes : PageNo × PageImage → List ℕ
 page_bytes page = to_le_bytes w32 page.0.0 ++ page.1.bytes
 
--- the 20 bytes behind a gate, before the pages
+-- the head, which stands between a gate and the pages
 abbrev pub head_bytes : ℕ → ℕ → ℕ → ℕ → ℕ → List ℕ
 head_bytes generation number client ordinal count =
     to_le_bytes w32 generation ++ to_le_bytes w64 number ++ to_le_bytes w16 client ++ to_le_bytes w32 ordinal
@@ -35,6 +37,13 @@ behind_gate generation number r =
 abbrev pub record_bytes : ℕ → ℕ → Logged → List ℕ
 record_bytes generation number r = 1 ∷ behind_gate generation number r
 
+-- how many bytes a record with so many pages has, and how many of them stand behind its gate
+abbrev pub record_size : ℕ → ℕ
+record_size count = PAGES_IN_RECORD + LOGGED_BYTES * count
+
+abbrev pub behind_size : ℕ → ℕ
+behind_size count = HEAD_BYTES + LOGGED_BYTES * count
+
 -- the open records after commit n, one commit after the other
 abbrev pub log_bytes : ℕ → ℕ → List Logged → List ℕ
 log_bytes generation n [] = []
@@ -49,7 +58,7 @@ AreAscending low limit (page ∷ pages) =
 -- each image has the bytes of a page
 abbrev pub AreWhole : Writes → Type 0
 AreWhole [] = ⊤
-AreWhole (page ∷ pages) = (length page.1.bytes ≡ 4096) × AreWhole pages
+AreWhole (page ∷ pages) = (length page.1.bytes ≡ PAGE_SIZE) × AreWhole pages
 
 -- what a record of a database with so many pages may say
 pub record IsLawful (pages : ℕ) (r : Logged) : Type 0 where
@@ -74,12 +83,13 @@ u64_at bytes at = from_le_bytes w64 (take 8 (drop at bytes))
 abbrev pub pages_of : ℕ → List ℕ → Writes
 pages_of zero bytes = []
 pages_of (suc k) bytes =
-    (record { 0 = u32_at bytes 0 }, record { bytes = take 4096 (drop 4 bytes) }) ∷ pages_of k (drop 4100 bytes)
+    (record { 0 = u32_at bytes 0 }, record { bytes = take PAGE_SIZE (drop IMAGE_IN_LOGGED bytes) })
+    ∷ pages_of k (drop LOGGED_BYTES bytes)
 
 -- what the bytes behind a gate say
 abbrev pub record_in : List ℕ → Logged
 record_in bytes = record {
-  client = u16_at bytes 12;
-  ordinal = u32_at bytes 14;
-  pages = pages_of (u16_at bytes 18) (drop 20 bytes);
+  client = u16_at bytes CLIENT_IN_HEAD;
+  ordinal = u32_at bytes ORDINAL_IN_HEAD;
+  pages = pages_of (u16_at bytes COUNT_IN_HEAD) (drop HEAD_BYTES bytes);
 }

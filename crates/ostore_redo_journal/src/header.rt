@@ -4,14 +4,18 @@ ghost use Rattle.std.specs.Prelude.{◌≡◌, ◌+◌, ◌*◌, ◌%◌, ◌<�
 ghost use Rattle.ostore_base.specs.Faults.{Rose};
 ghost use Rattle.ostore_base.specs.Images.{Keeps};
 ghost use Rattle.ostore_base.specs.Limits.{least_pages, most_pages};
+ghost use Rattle.ostore_base.specs.declared.page.TheConstants.{PAGE_SIZE};
+ghost use Rattle.ostore_redo_journal.specs.declared.layout.TheConstants.{NAME_BYTES, FORMAT_AT, SLOT_A_AT, SLOT_B_AT, GENERATION_IN_SLOT};
 ghost use Rattle.ostore_redo_journal.specs.Limits.{greatest_base};
 ghost use Rattle.ostore_redo_journal.specs.Records.{u32_at};
-ghost use Rattle.ostore_redo_journal.specs.Headers.{SlotCounts, IsCurrent, IsOurs, IsPlaced, HasHeader, IsNotDatabase, IsNewer, IsBadBase, journal_at};
+ghost use Rattle.ostore_redo_journal.specs.Headers.{SlotCounts, IsCurrent, IsOurs, IsPlaced, HasHeader, IsNotDatabase, IsNewer, IsBadBase, journal_at, front_of, database_name};
 ghost use Rattle.ostore_redo_journal.specs.declared.header.HeaderFault.TheVariants.{DiskFault, NotDatabase, NewerFormat, BadRecord};
 
-use crate::layout::{BLOCK, FORMAT_AT, PAGES_AT, SLOT_A, SLOT_B};
+use crate::layout::{
+    BASE_IN_SLOT, FORMAT_AT, GENERATION_IN_SLOT, NAME_BYTES, PAGES_AT, SLOT_A_AT, SLOT_B_AT,
+};
 use crate::numbers::{get_gate, get_u32, get_u64};
-use ostore_base::{Disk, Failed, MAX_PAGES};
+use ostore_base::{Disk, Failed, MAX_PAGES, PAGE_SIZE};
 use thiserror::Error;
 
 /// What the header of a database says: how many pages it has, the generation of its journal, and the
@@ -71,79 +75,85 @@ fn counts(gate: u8, generation: u32, parity: u32) -> bool
 
 // Whether the slot at a place counts. Its generation has this remainder by 2.
 fn slot_counts(front: &[u8], at: usize, parity: u32) -> bool
-    requires inside { at + 5 ≤ length front.now }
+    requires inside { at + GENERATION_IN_SLOT + 4 ≤ length front.now }
     requires parity { parity < 2 }
     ensures { IsTrue result ↔ SlotCounts front.now at parity }
 {
-    counts(get_gate(front, at), get_u32(front, at + 1), parity)
+    counts(
+        get_gate(front, at),
+        get_u32(front, at + GENERATION_IN_SLOT),
+        parity,
+    )
 }
 
 // Whether a slot counts.
 fn has_slot(front: &[u8]) -> bool
-    requires { length front.now ≡ 4096 }
-    ensures { IsTrue result ↔ (SlotCounts front.now 64 1 ⊎ SlotCounts front.now 128 0) }
+    requires { length front.now ≡ PAGE_SIZE }
+    ensures { IsTrue result ↔ (SlotCounts front.now SLOT_A_AT 1 ⊎ SlotCounts front.now SLOT_B_AT 0) }
 {
-    slot_counts(front, SLOT_A, 1) || slot_counts(front, SLOT_B, 0)
+    slot_counts(front, SLOT_A_AT, 1) || slot_counts(front, SLOT_B_AT, 0)
 }
 
 // The place of the current slot.
 #[tactic(auto, using(crate::proofs::Slots::first_current, crate::proofs::Slots::second_current))]
 fn current_slot(front: &[u8]) -> usize
-    requires size { length front.now ≡ 4096 }
-    requires some { SlotCounts front.now 64 1 ⊎ SlotCounts front.now 128 0 }
+    requires size { length front.now ≡ PAGE_SIZE }
+    requires some { SlotCounts front.now SLOT_A_AT 1 ⊎ SlotCounts front.now SLOT_B_AT 0 }
     ensures current { IsCurrent front.now result }
-    ensures within { result ≤ 128 }
+    ensures within { result ≤ SLOT_B_AT }
 {
-    if !slot_counts(front, SLOT_A, 1) {
-        return SLOT_B;
+    if !slot_counts(front, SLOT_A_AT, 1) {
+        return SLOT_B_AT;
     }
-    if !slot_counts(front, SLOT_B, 0) {
-        return SLOT_A;
+    if !slot_counts(front, SLOT_B_AT, 0) {
+        return SLOT_A_AT;
     }
-    if get_u32(front, SLOT_A + 1) < get_u32(front, SLOT_B + 1) {
-        return SLOT_B;
+    if get_u32(front, SLOT_A_AT + GENERATION_IN_SLOT)
+        < get_u32(front, SLOT_B_AT + GENERATION_IN_SLOT)
+    {
+        return SLOT_B_AT;
     }
-    SLOT_A
+    SLOT_A_AT
 }
 
 // Whether the bytes begin with the name of this database.
 fn has_name(front: &[u8]) -> bool
-    requires { length front.now ≡ 4096 }
-    ensures { IsTrue result ↔ (take 8 front.now
-        ≡ 79 ∷ 83 ∷ 80 ∷ 65 ∷ 71 ∷ 69 ∷ 83 ∷ 49 ∷ []) }
+    requires { length front.now ≡ PAGE_SIZE }
+    ensures { IsTrue result ↔ (take NAME_BYTES front.now ≡ database_name) }
 {
-    let name = &front[..8];
+    let name = &front[..NAME_BYTES];
     name == b"OSPAGES1".as_slice()
 }
 
 // Whether these are the bytes of a database of some format.
 fn is_ours(front: &[u8], size: u64) -> bool
-    requires { length front.now ≡ 4096 }
+    requires { length front.now ≡ PAGE_SIZE }
     ensures { IsTrue result ↔ IsOurs front.now size }
 {
-    size >= BLOCK as u64 && has_name(front) && get_u32(front, FORMAT_AT) > 0
+    size >= PAGE_SIZE as u64 && has_name(front) && get_u32(front, FORMAT_AT) > 0
 }
 
 // Whether so many pages fit a database of this size.
 fn fits(pages: u32, size: u64) -> bool
     ensures { IsTrue result ↔ ((least_pages ≤ pages) × (pages ≤ most_pages)
-        × (4096 * (1 + pages) < size)) }
+        × (PAGE_SIZE * (1 + pages) < size)) }
 {
-    (LEAST_PAGES..=MAX_PAGES as u32).contains(&pages) && BLOCK as u64 * (1 + pages as u64) < size
+    (LEAST_PAGES..=MAX_PAGES as u32).contains(&pages)
+        && PAGE_SIZE as u64 * (1 + pages as u64) < size
 }
 
 // Whether the pages fit, and a slot counts.
 fn is_placed(front: &[u8], size: u64) -> bool
-    requires { length front.now ≡ 4096 }
+    requires { length front.now ≡ PAGE_SIZE }
     ensures { IsTrue result ↔ IsPlaced front.now size }
 {
     fits(get_u32(front, PAGES_AT), size) && has_slot(front)
 }
 
-// What the first 4,096 bytes of a disk of this length say.
+// What the header of a disk of this length says.
 fn judge(front: &[u8], size: u64) -> Result<Header, HeaderFault>
-    requires { length front.now ≡ 4096 }
-    ensures whole { length front.now ≡ 4096 }
+    requires { length front.now ≡ PAGE_SIZE }
+    ensures whole { length front.now ≡ PAGE_SIZE }
     ensures header { IfOk result (λ h. HasHeader front.now h × (journal_at h < size)) }
     ensures not_database { IsErrOf result NotDatabase → IsNotDatabase front.now size }
     ensures newer { IsErrOf result NewerFormat → IsNewer front.now size }
@@ -166,9 +176,9 @@ fn judge(front: &[u8], size: u64) -> Result<Header, HeaderFault>
 // What the current slot says, of the bytes of a database in format 1.
 #[tactic(auto, using(crate::proofs::Slots::bad_base, crate::proofs::Slots::has_header))]
 fn read_slot(front: &[u8], size: u64) -> Result<Header, HeaderFault>
-    requires whole { length front.now ≡ 4096 }
+    requires whole { length front.now ≡ PAGE_SIZE }
     requires ours { IsOurs front.now size }
-    requires format { u32_at front.now 8 ≤ 1 }
+    requires format { u32_at front.now FORMAT_AT ≤ 1 }
     requires placed { IsPlaced front.now size }
     ensures header { IfOk result (λ h. HasHeader front.now h × (journal_at h < size)) }
     ensures bad { (at : ℕ) → IsErrOf result (BadRecord at) → IsBadBase front.now size at }
@@ -176,13 +186,13 @@ fn read_slot(front: &[u8], size: u64) -> Result<Header, HeaderFault>
         × (IsErrOf result NewerFormat → ⊥) }
 {
     let at = current_slot(front);
-    let base = get_u64(front, at + 5);
+    let base = get_u64(front, at + BASE_IN_SLOT);
     if base > GREATEST_BASE {
         return Err(HeaderFault::BadRecord { at: at as u64 });
     }
     Ok(Header {
         pages: get_u32(front, PAGES_AT),
-        generation: get_u32(front, at + 1),
+        generation: get_u32(front, at + GENERATION_IN_SLOT),
         base,
     })
 }
@@ -192,15 +202,15 @@ fn read_slot(front: &[u8], size: u64) -> Result<Header, HeaderFault>
 /// counts, and a base above 2^62.
 pub fn read_header<D: Disk>(disk: &mut D) -> Result<Header, HeaderFault>
     ensures header { IfOk result (λ h. IfSome (D.content disk.old)
-        (λ held. HasHeader (take 4096 held) h × (journal_at h < length held))) }
+        (λ held. HasHeader (front_of held) h × (journal_at h < length held))) }
     ensures limits { IfOk result (λ h. (least_pages ≤ h.pages) × (h.pages ≤ most_pages)
         × (h.base ≤ greatest_base)) }
     ensures not_database { IsErrOf result NotDatabase → IfSome (D.content disk.old)
-        (λ held. IsNotDatabase (take 4096 held) (length held)) }
+        (λ held. IsNotDatabase (front_of held) (length held)) }
     ensures newer { IsErrOf result NewerFormat → IfSome (D.content disk.old)
-        (λ held. IsNewer (take 4096 held) (length held)) }
+        (λ held. IsNewer (front_of held) (length held)) }
     ensures bad { (at : ℕ) → IsErrOf result (BadRecord at) → IfSome (D.content disk.old)
-        (λ held. IsBadBase (take 4096 held) (length held) at) }
+        (λ held. IsBadBase (front_of held) (length held) at) }
     ensures content { D.content disk.new ≡ D.content disk.old }
     ensures images { Keeps (D.may_leave disk.old) (D.may_leave disk.new) }
     ensures later { D.faults disk.old ≤ D.faults disk.new }
@@ -208,10 +218,10 @@ pub fn read_header<D: Disk>(disk: &mut D) -> Result<Header, HeaderFault>
     ensures kept { OnOk result (D.faults disk.new ≡ D.faults disk.old) }
 {
     let size = disk.length()?;
-    if size < BLOCK as u64 {
+    if size < PAGE_SIZE as u64 {
         return Err(HeaderFault::NotDatabase);
     }
-    let mut front = [0; BLOCK];
+    let mut front = [0; PAGE_SIZE];
     disk.read(0, &mut front)?;
     judge(&front, size)
 }

@@ -3,8 +3,9 @@
 
 ghost use Rattle.std.specs.Prelude.{◌≡◌, ℕ, ◌+◌, ◌*◌, ◌<◌, ◌≤◌, ◌^◌, ◌++◌, ◌∷◌, [], List, length, get_or, take, drop};
 ghost use Rattle.ostore_base.specs.declared.page.PageImage.{PageImage};
-ghost use Rattle.ostore_redo_journal.specs.Records.{Logged, IsLawful, behind_gate, record_in, u16_at, u32_at, u64_at};
-ghost use Rattle.ostore_redo_journal.specs.Headers.{HasHeader, journal_at};
+ghost use Rattle.ostore_redo_journal.specs.declared.layout.TheConstants.{GENERATION_IN_HEAD, NUMBER_IN_HEAD, COUNT_IN_HEAD};
+ghost use Rattle.ostore_redo_journal.specs.Records.{Logged, IsLawful, behind_gate, record_in, behind_size, u16_at, u32_at, u64_at};
+ghost use Rattle.ostore_redo_journal.specs.Headers.{HasHeader, journal_at, front_of};
 ghost use Rattle.ostore_redo_journal.specs.OnDisk.{ReadsAs, HasRecords, IsEnd, IsBad};
 ghost use Rattle.ostore_redo_journal.specs.Last.{IsLast, newest, image_of, or_else};
 ghost use Rattle.ostore_redo_journal.specs.declared.header.Header.{Header};
@@ -19,8 +20,9 @@ pub fn written_is_read()
 /// What is read of a record is written so.
 pub fn read_is_written()
     ensures { (generation number : ℕ) (bytes : List ℕ) → ((i : ℕ) → get_or bytes i 0 < 256)
-        → length bytes ≡ 20 + 4100 * u16_at bytes 18 → u32_at bytes 0 ≡ generation
-        → u64_at bytes 4 ≡ number → behind_gate generation number (record_in bytes) ≡ bytes }
+        → length bytes ≡ behind_size (u16_at bytes COUNT_IN_HEAD)
+        → u32_at bytes GENERATION_IN_HEAD ≡ generation → u64_at bytes NUMBER_IN_HEAD ≡ number
+        → behind_gate generation number (record_in bytes) ≡ bytes }
 {}
 
 /// Bytes read as one header and one list of records at most.
@@ -31,7 +33,7 @@ pub fn reads_are_unique()
 
 /// Where a header and records were read, and the journal ends behind them, the bytes read as these.
 pub fn scanned_is_read()
-    ensures { (held : List ℕ) (h : Header) (scan : Scan) → HasHeader (take 4096 held) h
+    ensures { (held : List ℕ) (h : Header) (scan : Scan) → HasHeader (front_of held) h
         → journal_at h < length held → HasRecords held h scan
         → IsEnd h scan.records (drop scan.end held)
         → (rs : List Logged) × ReadsAs held h rs × (scan.records ≡ length rs) }

@@ -4,6 +4,7 @@ ghost use Rattle.std.specs.Prelude.{◌≡◌, ℕ, List, ◌+◌, ◌≤◌, �
 ghost use Rattle.ostore_base.specs.Faults.{Rose, HasCause};
 ghost use Rattle.ostore_base.specs.Images.{Keeps};
 ghost use Rattle.ostore_base.specs.Limits.{longest_disk};
+ghost use Rattle.ostore_redo_journal.specs.declared.layout.TheConstants.{GATE_BYTES, PAGES_IN_RECORD};
 ghost use Rattle.ostore_redo_journal.specs.Records.{Logged};
 ghost use Rattle.ostore_redo_journal.specs.OnDisk.{IsOpened};
 ghost use Rattle.ostore_redo_journal.specs.Order.{IsInOrder};
@@ -13,9 +14,11 @@ ghost use Rattle.ostore_redo_journal.specs.declared.listing.HistoryFault.TheVari
 
 use crate::header::{Header, Scan};
 use crate::journal::Journal;
-use crate::layout::{BLOCK, HEAD, PAGE};
+use crate::layout::{
+    CLIENT_IN_HEAD, COUNT_IN_HEAD, GATE_BYTES, LOGGED_BYTES, ORDINAL_IN_HEAD, PAGES_IN_RECORD,
+};
 use crate::numbers::{get_u16, get_u32};
-use ostore_base::{ClientNo, Disk, Failed, ListOf, OutOfMemory};
+use ostore_base::{ClientNo, Disk, Failed, ListOf, OutOfMemory, PAGE_SIZE};
 use std::alloc::Global;
 use thiserror::Error;
 
@@ -84,20 +87,22 @@ impl<D: Disk> Journal<D> {
 
 // The item of the record at a place of the disk.
 fn read_item<D: Disk>(disk: &mut D, at: u64, number: u64) -> Result<Item, Failed>
-    requires { IfSome (D.content disk.old) (λ held. at + 21 ≤ length held) }
+    requires { IfSome (D.content disk.old) (λ held. at + PAGES_IN_RECORD ≤ length held) }
     ensures item { IfOk result (λ item. IfSome (D.content disk.old)
-        (λ held. item ≡ item_in number (take 21 (drop at held)))) }
+        (λ held. item
+        ≡ item_in number (drop GATE_BYTES (take PAGES_IN_RECORD (drop at held))))) }
     ensures content { D.content disk.new ≡ D.content disk.old }
     ensures images { Keeps (D.may_leave disk.old) (D.may_leave disk.new) }
     ensures cause { HasCause (D.faults disk.old) (D.faults disk.new) result }
 {
-    let mut bytes = [0; HEAD + 1];
+    let mut bytes = [0; PAGES_IN_RECORD];
     disk.read(at, &mut bytes)?;
+    let head = &bytes[GATE_BYTES..];
     Ok(Item {
         number,
-        client: ClientNo(get_u16(&bytes, 13)),
-        ordinal: get_u32(&bytes, 15),
-        pages: get_u16(&bytes, 19),
+        client: ClientNo(get_u16(head, CLIENT_IN_HEAD)),
+        ordinal: get_u32(head, ORDINAL_IN_HEAD),
+        pages: get_u16(head, COUNT_IN_HEAD),
     })
 }
 
@@ -122,12 +127,12 @@ fn list_records<D: Disk>(
     ensures kept { OnOk result (D.faults disk.new ≡ D.faults disk.old) }
 {
     let mut items = ListOf::new(alloc);
-    let mut at = BLOCK as u64 * (1 + header.pages as u64);
+    let mut at = PAGE_SIZE as u64 * (1 + header.pages as u64);
     for done in 0..scan.records {
         let item = read_item(disk, at, header.base + done + 1)?;
         items.push(item)?;
         // Only a disk that doesn't tell could pass the end of 64 bits.
-        at = at.saturating_add((HEAD + 1 + PAGE * item.pages as usize) as u64);
+        at = at.saturating_add((PAGES_IN_RECORD + LOGGED_BYTES * item.pages as usize) as u64);
     }
     Ok(items)
 }

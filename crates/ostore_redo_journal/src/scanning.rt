@@ -5,7 +5,8 @@ ghost use Rattle.ostore_base.specs.Faults.{Rose, HasCause};
 ghost use Rattle.ostore_base.specs.Images.{Keeps};
 ghost use Rattle.ostore_base.specs.Limits.{longest_disk, most_pages};
 ghost use Rattle.ostore_redo_journal.specs.Limits.{greatest_base};
-ghost use Rattle.ostore_redo_journal.specs.Records.{u16_at, u32_at};
+ghost use Rattle.ostore_redo_journal.specs.declared.layout.TheConstants.{COUNT_IN_HEAD, PAGES_IN_RECORD};
+ghost use Rattle.ostore_redo_journal.specs.Records.{u16_at, u32_at, behind_size};
 ghost use Rattle.ostore_redo_journal.specs.Headers.{journal_at};
 ghost use Rattle.ostore_redo_journal.specs.OnDisk.{IsEnd, IsBad, HasRecord, HasRecords, IsScanned, IsBadAt};
 ghost use Rattle.ostore_redo_journal.specs.inside.Bytes.{IsRecord, IsCounted};
@@ -15,9 +16,12 @@ ghost use Rattle.ostore_redo_journal.specs.declared.header.Scan.{Scan};
 
 use crate::decode::is_counted;
 use crate::header::{Header, Scan};
-use crate::layout::{BLOCK, HEAD, PAGE};
+use crate::layout::{
+    COUNT_IN_HEAD, GATE_BYTES, GENERATION_IN_HEAD, HEAD_BYTES, LOGGED_BYTES, NUMBER_IN_HEAD,
+    PAGES_IN_RECORD,
+};
 use crate::numbers::{get_gate, get_u16, get_u32};
-use ostore_base::{Disk, Failed, OutOfMemory};
+use ostore_base::{Disk, Failed, OutOfMemory, PAGE_SIZE};
 use std::alloc::Global;
 use thiserror::Error;
 
@@ -117,10 +121,11 @@ fn is_end<D: Disk>(disk: &mut D, length: u64, header: Header, scan: Scan) -> Res
     if scan.records > 0 {
         return Ok(false);
     }
-    if length - scan.end < 5 {
+    // With fewer bytes no generation stands there.
+    if length - scan.end < (GATE_BYTES + NUMBER_IN_HEAD) as u64 {
         return Ok(false);
     }
-    Ok(read_u32(disk, scan.end + 1)? < header.generation)
+    Ok(read_u32(disk, scan.end + (GATE_BYTES + GENERATION_IN_HEAD) as u64)? < header.generation)
 }
 
 // The same, with the memory for them.
@@ -132,15 +137,15 @@ fn read_counted<D: Disk>(
     header: Header,
     number: u64,
 ) -> Result<bool, Failed>
-    requires inside { IfSome (D.content disk.old) (λ held. at + 20 + 4100 * count ≤ length held) }
-    requires size { length bytes.old ≡ 20 + 4100 * count }
+    requires inside { IfSome (D.content disk.old) (λ held. at + behind_size count ≤ length held) }
+    requires size { length bytes.old ≡ behind_size count }
     ensures good { IfOk result (λ found. found ≡ true → IfSome (D.content disk.old)
         (λ held. IsCounted header.pages header.generation number count
-        (take (20 + 4100 * count) (drop at held)))) }
+        (take (behind_size count) (drop at held)))) }
     ensures bad { IfOk result (λ found. found ≡ false → IfSome (D.content disk.old)
-        (λ held. u16_at (take (20 + 4100 * count) (drop at held)) 18 ≡ count
+        (λ held. u16_at (take (behind_size count) (drop at held)) COUNT_IN_HEAD ≡ count
         → IsRecord header.pages header.generation number
-        (take (20 + 4100 * count) (drop at held)) → ⊥)) }
+        (take (behind_size count) (drop at held)) → ⊥)) }
     ensures content { D.content disk.new ≡ D.content disk.old }
     ensures images { Keeps (D.may_leave disk.old) (D.may_leave disk.new) }
     ensures cause { HasCause (D.faults disk.old) (D.faults disk.new) result }
@@ -167,14 +172,14 @@ fn has_record<D: Disk>(
     header: Header,
     number: u64,
 ) -> Result<bool, ScanFault>
-    requires inside { IfSome (D.content disk.old) (λ held. at + 20 + 4100 * count ≤ length held) }
+    requires inside { IfSome (D.content disk.old) (λ held. at + behind_size count ≤ length held) }
     ensures good { IfOk result (λ found. found ≡ true → IfSome (D.content disk.old)
         (λ held. IsCounted header.pages header.generation number count
-        (take (20 + 4100 * count) (drop at held)))) }
+        (take (behind_size count) (drop at held)))) }
     ensures bad { IfOk result (λ found. found ≡ false → IfSome (D.content disk.old)
-        (λ held. u16_at (take (20 + 4100 * count) (drop at held)) 18 ≡ count
+        (λ held. u16_at (take (behind_size count) (drop at held)) COUNT_IN_HEAD ≡ count
         → IsRecord header.pages header.generation number
-        (take (20 + 4100 * count) (drop at held)) → ⊥)) }
+        (take (behind_size count) (drop at held)) → ⊥)) }
     ensures content { D.content disk.new ≡ D.content disk.old }
     ensures images { Keeps (D.may_leave disk.old) (D.may_leave disk.new) }
     ensures later { D.faults disk.old ≤ D.faults disk.new }
@@ -183,7 +188,7 @@ fn has_record<D: Disk>(
     ensures kept { OnOk result (D.faults disk.new ≡ D.faults disk.old) }
     ensures not_bad { (at : ℕ) → IsErrOf result (ScanFault.BadRecord at) → ⊥ }
 {
-    let size = HEAD + PAGE * count as usize;
+    let size = HEAD_BYTES + LOGGED_BYTES * count as usize;
     let mut bytes = zeros(alloc, size)?;
     Ok(read_counted(disk, at, &mut bytes, count, header, number)?)
 }
@@ -205,7 +210,7 @@ fn read_record<D: Disk>(
     ensures step { IfOk result (λ step. IfSome (D.content disk.old)
         (λ held. StepIs header scan.records (drop scan.end held) step)) }
     ensures within { IfOk result (λ step. (size : ℕ) → step ≡ Step.Record size
-        → (21 ≤ size) × (scan.end + size < length)) }
+        → (PAGES_IN_RECORD ≤ size) × (scan.end + size < length)) }
     ensures content { D.content disk.new ≡ D.content disk.old }
     ensures images { Keeps (D.may_leave disk.old) (D.may_leave disk.new) }
     ensures later { D.faults disk.old ≤ D.faults disk.new }
@@ -215,16 +220,18 @@ fn read_record<D: Disk>(
     ensures not_bad { (at : ℕ) → IsErrOf result (ScanFault.BadRecord at) → ⊥ }
 {
     let room = length - scan.end;
-    if room < 22 {
+    let behind = scan.end + GATE_BYTES as u64;
+    let least = PAGES_IN_RECORD as u64;
+    if room <= least {
         return Ok(Step::Bad);
     }
-    let count = read_u16(disk, scan.end + 19)?;
-    let size = 21 + 4100 * count as u64;
-    if room < size + 1 {
+    let count = read_u16(disk, behind + COUNT_IN_HEAD as u64)?;
+    let size = (PAGES_IN_RECORD + LOGGED_BYTES * count as usize) as u64;
+    if room <= size {
         return Ok(Step::Bad);
     }
     let number = header.base + scan.records + 1;
-    if !has_record(alloc, disk, scan.end + 1, count, header, number)? {
+    if !has_record(alloc, disk, behind, count, header, number)? {
         return Ok(Step::Bad);
     }
     Ok(Step::Record { size })
@@ -253,7 +260,7 @@ pub fn scan<D: Disk>(alloc: Global, disk: &mut D, header: Header) -> Result<Scan
     let length = disk.length()?;
     let mut scan = Scan {
         records: 0,
-        end: BLOCK as u64 * (1 + header.pages as u64),
+        end: PAGE_SIZE as u64 * (1 + header.pages as u64),
     };
     if length <= scan.end {
         return Err(ScanFault::BadRecord { at: scan.end });

@@ -22,14 +22,16 @@ fn a_record_gives_its_pages_in_their_order(rt: HostRuntime) -> Result<(), Fail> 
 #[test]
 fn the_first_record_has_these_bytes(rt: HostRuntime) -> Result<(), Fail> {
     let alloc = rt.alloc();
-    let mut disk = MemDisk::new(database(alloc)?, Vec::new(alloc));
+    let disk = MemDisk::new(database(alloc)?, Vec::new(alloc));
+    let Some(mut journal) = opened(alloc, disk) else {
+        return Err(Fail::new("the journal was not opened"));
+    };
     let mut record = Record::new(alloc, ClientNo(0), 1, 3)?;
     record.add(PageNo(0), &filled(5));
     record.add(PageNo(9), &filled(6));
     record.add(PageNo(10), &filled(7));
-    if disk.bytes().len() == 86017 && record.len() == 3 {
-        assert_eq!(rt; record.write(&mut disk, 86016, 1, 1), Ok(()));
-    }
+    assert_eq!(rt; journal.append(&mut record), Ok(1));
+    assert_eq!(rt; journal.scan.end, 98337);
     // Everything from the first gate to the next one: 12,321 bytes and a closed gate.
     let pieces: [(usize, &[u8]); 9] = [
         (0, &[1]),
@@ -46,7 +48,7 @@ fn the_first_record_has_these_bytes(rt: HostRuntime) -> Result<(), Fail> {
     for place in want.iter_mut().skip(8225).take(4096) {
         *place = 7;
     }
-    let held = disk.bytes();
+    let held = journal.disk.bytes();
     assert_eq!(rt; held.len(), 98338);
     assert!(rt; held.get(86016..) == Some(want.as_slice()));
     Ok(())

@@ -7,9 +7,9 @@ roomy : (told : Option (List ℕ)) (size end n : ℕ) → Long told size → n <
 roomy None size end n long room = tt
 roomy (Some held) size end n long room = omega arith
 
-pub returns-then-room-lt22-clause-step : goal.returns-then-room-lt22-clause-step
-returns-then-room-lt22-clause-step g c =
-    told_short (g.D.Disk.content c.args.disk.now) c.args.header c.args.scan c.args.length c.requires.told c.requires.more c.if-room-lt22.true
+pub returns-then-room-least-clause-step : goal.returns-then-room-least-clause-step
+returns-then-room-least-clause-step g c =
+    told_short (g.D.Disk.content c.args.disk.now) c.args.header c.args.scan c.args.length c.requires.told c.requires.more c.if-room-least.true
 
 pub returns-then-room-size-clause-step : goal.returns-then-room-size-clause-step
 returns-then-room-size-clause-step g c =

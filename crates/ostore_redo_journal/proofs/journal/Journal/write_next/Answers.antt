@@ -1,7 +1,8 @@
-use Rattle.std.proofs.Common.{◌+◌, ℕ, refl, ap, arith}
+use Rattle.std.proofs.Common.{◌+◌, ◌*◌, ℕ, refl, ap, arith}
 use Rattle.ostore_base.proofs.MomentLemmas.{leaves_weaker}
 use Rattle.ostore_redo_journal.proofs.Ascending.{few_pages, lawful_of}
-use Rattle.ostore_redo_journal.proofs.Appends.{told_leaves, told_reads}
+use Rattle.ostore_redo_journal.proofs.Appends.{told_leaves, told_reads, survives}
+use Rattle.ostore_redo_journal.specs.declared.header.Scan.{Scan}
 use Rattle.ostore_redo_journal.proofs.Orders.{still_next, next_inside, sized}
 use Rattle.ostore_redo_journal.proofs.journal.Journal.write_next.Goals as goal
 
@@ -49,3 +50,13 @@ returns-clause-appended g c rs reads =
     let size = sized j.header.pages j.header.generation (j.header.base + j.scan.records + 1) _ c.len.result lawful c.len.ensures.len in
     told_reads (g.D.Disk.content j.disk) (g.D.Disk.content c.write.new.disk) j.header j.scan _ rs _ _ _ reads refl lawful refl refl
     (ap (λ (k : ℕ). j.scan.end + k) size) c.in_ok-write.ensures.written
+
+pub returns-clause-acknowledged : goal.returns-clause-acknowledged
+returns-clause-acknowledged g c rs reads =
+    let j = c.args.self.now in
+    let now : Scan = record { records = j.scan.records + 1; end = j.scan.end + (21 + 4100 * c.len.result) } in
+    let lawful = lawful_of j.header.pages _ c.write.ensures.whole c.requires.above c.requires.ordinal in
+    let size = sized j.header.pages j.header.generation (j.header.base + j.scan.records + 1) _ c.len.result lawful c.len.ensures.len in
+    survives (g.D.Disk.content c.write.new.disk) (g.D.Disk.may_leave c.write.new.disk) j.header now _ c.in_ok-write.ensures.sure
+    (told_reads (g.D.Disk.content j.disk) (g.D.Disk.content c.write.new.disk) j.header j.scan now rs _ _ _ reads refl lawful refl refl
+    (ap (λ (k : ℕ). j.scan.end + k) size) c.in_ok-write.ensures.written)

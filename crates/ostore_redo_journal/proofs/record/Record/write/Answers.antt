@@ -46,7 +46,7 @@ pub returns-clause-within : goal.returns-clause-within
 returns-clause-within g c =
     let s = c.self.inside in
     let counted = pages_counted s.count (drop 21 s.bytes.items) in
-    rw (← c.self.view_is) (subst (λ (k : ℕ). OnOk c.write_bytes.result (c.args.gate + 22 + 4100 * k ≤ longest_disk)) (sym counted) c.write_bytes.ensures.within)
+    rw (← c.self.view_is) (subst (λ (k : ℕ). OnOk c.write_bytes.result (c.args.gate + (21 + 4100 * k) + 1 ≤ longest_disk)) (sym counted) c.write_bytes.ensures.within)
 
 pub returns-clause-written : goal.returns-clause-written
 returns-clause-written g c = rw (← c.self.view_is) c.write_bytes.ensures.written
