@@ -1,2 +1,3 @@
 pub mod ServiceLaws
 pub mod SumLaws
+pub mod AddLaws

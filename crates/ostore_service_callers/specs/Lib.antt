@@ -1,2 +1,4 @@
 pub mod Sums
 pub mod Held
+pub mod Claimed
+pub mod Adding

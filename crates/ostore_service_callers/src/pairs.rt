@@ -1,15 +1,17 @@
 //! A caller that claims two pages or none, and two clients in turn.
 
-ghost use Rattle.std.specs.Prelude.{◌≡◌, ◌≢◌, ◌<◌, ℕ, length, OnOk, OnErr};
+ghost use Rattle.std.specs.Prelude.{◌≡◌, ◌≢◌, ◌<◌, ℕ, length, OnOk, OnErr, IfErr};
 ghost use Rattle.ostore_base.specs.Limits.{most_clients};
-ghost use Rattle.ostore_page_service.specs.Told.{SameRecords, Undisturbed, StillServes, HoldsReached};
+ghost use Rattle.ostore_page_service.specs.Told.{SameRecords, NoBusy, Undisturbed, StillServes, HoldsReached};
 ghost use Rattle.ostore_page_service.specs.Servers.{side_of, opened_of, told_of, Serves};
 ghost use Rattle.ostore_service_callers.specs.Held.{HoldsBoth, HoldsNone};
+ghost use Rattle.ostore_service_callers.specs.Claimed.{SameBeside, ComesIntoUse, MeetsAt, MeetsOwner};
 
 use ostore_base::{ClientNo, Disk, PageImage, PageNo};
 use ostore_page_service::{Busy, Kind, PageClaims, SeqServer, SeqService};
 
-/// Claims two pages, or none where one of them is Busy. What is held are images of one reached list.
+/// Claims two pages, or none where one of them is Busy, which is that page's Busy. What is held are images of
+/// one reached list, and of a page that was fetched the image is put out.
 pub fn claim_two<K: Kind, S: PageClaims<K>>(
     service: &mut S,
     one: PageNo,
@@ -26,7 +28,15 @@ pub fn claim_two<K: Kind, S: PageClaims<K>>(
     ensures held { OnOk result (HoldsBoth (S.tells service.new).mine.held one.0 two.0) }
     ensures reached { OnOk result
         (HoldsReached K.meaning (S.serves service.old) (S.tells service.new)) }
+    ensures one { OnOk result (ComesIntoUse (S.tells service.old).mine
+        (S.tells service.new).mine one.0 into.new) }
+    ensures two { OnOk result (ComesIntoUse (S.tells service.old).mine
+        (S.tells service.new).mine two.0 other.new) }
     ensures free { OnErr result (HoldsNone (S.tells service.new).mine.held) }
+    ensures beside { SameBeside (S.tells service.old).mine (S.tells service.new).mine one.0 two.0 }
+    ensures calm { OnOk result (NoBusy (S.tells service.old) (S.tells service.new)) }
+    ensures busy { IfErr result
+        (MeetsAt (S.tells service.old) (S.tells service.new) one.0 two.0) }
 {
     service.claim_read(one, into)?;
     if let Err(busy) = service.claim_read(two, other) {
@@ -56,8 +66,16 @@ fn claim_two_there<K: Kind, D: Disk>(
     ensures served { StillServes (Serves service.old.server.now) (Serves service.new.server.now) }
     ensures held { OnOk result
         (HoldsBoth (side_of service.new.server.now service.new.seat.client.0).held one.0 two.0) }
+    ensures one { OnOk result
+        (ComesIntoUse (side_of service.old.server.now service.old.seat.client.0)
+        (side_of service.new.server.now service.new.seat.client.0) one.0 into.new) }
+    ensures two { OnOk result
+        (ComesIntoUse (side_of service.old.server.now service.old.seat.client.0)
+        (side_of service.new.server.now service.new.seat.client.0) two.0 other.new) }
     ensures free { OnErr result
         (HoldsNone (side_of service.new.server.now service.new.seat.client.0).held) }
+    ensures busy { IfErr result (MeetsOwner (side_of service.old.server.now)
+        service.old.seat.client.0 one.0 two.0) }
 {
     claim_two(service, one, two, into, other)
 }
@@ -81,13 +99,19 @@ pub fn one_turn<K: Kind, D: Disk>(
     ensures others { (d : ℕ) → d < most_clients → d ≢ client.0
         → Undisturbed (side_of server.old d) (side_of server.new d) }
     ensures held { OnOk result (HoldsBoth (side_of server.new client.0).held one.0 two.0) }
+    ensures one { OnOk result (ComesIntoUse (side_of server.old client.0)
+        (side_of server.new client.0) one.0 into.new) }
+    ensures two { OnOk result (ComesIntoUse (side_of server.old client.0)
+        (side_of server.new client.0) two.0 other.new) }
     ensures free { OnErr result (HoldsNone (side_of server.new client.0).held) }
+    ensures busy { IfErr result (MeetsOwner (side_of server.old) client.0 one.0 two.0) }
 {
     let mut service = server.as_client(client);
     claim_two_there(&mut service, one, two, into, other)
 }
 
-/// Two clients in turn: the second one's turn leaves what the first one holds.
+/// Two clients in turn: the second one's turn leaves what the first one holds. Busy comes only where a client
+/// other than the first one owned a page before.
 pub fn two_turns<K: Kind, D: Disk>(
     server: &mut SeqServer<K, D>,
     one: PageNo,
@@ -103,6 +127,7 @@ pub fn two_turns<K: Kind, D: Disk>(
     ensures served { StillServes (Serves server.old) (Serves server.new) }
     ensures first { OnOk result (HoldsBoth (side_of server.new 0).held one.0 two.0) }
     ensures second { OnOk result (HoldsBoth (side_of server.new 1).held one.0 two.0) }
+    ensures busy { IfErr result (MeetsOwner (side_of server.old) 0 one.0 two.0) }
 {
     one_turn(server, ClientNo(0), one, two, into, other)?;
     one_turn(server, ClientNo(1), one, two, into, other)

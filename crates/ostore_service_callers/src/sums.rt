@@ -1,7 +1,7 @@
 //! Pages that hold one number each, and a caller that adds to one of them and commits the sum.
 
-ghost use Rattle.std.specs.Prelude.{◌≡◌, ◌≢◌, ◌<◌, ℕ, true, length, IsSome, OnOk, IfOk, Some};
-ghost use Rattle.ostore_page_service.specs.Told.{SameRecords, SameService, StillServes, Numbers};
+ghost use Rattle.std.specs.Prelude.{◌≡◌, ◌≢◌, ◌<◌, ℕ, true, length, IsSome, OnOk, OnErr, IfOk, IfErr, Some, None};
+ghost use Rattle.ostore_page_service.specs.Told.{SameRecords, SameService, SameElsewhere, StillServes, InUse, Refuses, OwnedByAnother};
 
 use ostore_base::{OutOfMemory, PageImage, PageNo};
 use ostore_page_service::{Busy, CommitFault, Kind, PageClaims, PageService};
@@ -42,6 +42,7 @@ pub enum AddFault {
 }
 
 ghost use Rattle.ostore_service_callers.specs.Held.{MayAdd, MayFetch, OwnsNone, OwnsOne, AreEarlier};
+ghost use Rattle.ostore_service_callers.specs.Adding.{Adds, AddsNothing, IsWhy, AddsOrFails};
 
 /// Brings a page into use of which the client keeps no copy.
 fn fetch<S: PageService<Sums>>(
@@ -53,8 +54,12 @@ fn fetch<S: PageService<Sums>>(
     requires free { MayFetch (S.tells service.old).mine page.0 }
     ensures same { SameRecords (S.tells service.old) (S.tells service.new) }
     ensures served { StillServes (S.serves service.old) (S.serves service.new) }
-    ensures held { OnOk result ((S.tells service.new).mine.held page.0 ≡ Some into.new) }
+    ensures claimed { OnOk result
+        (InUse (S.tells service.old) (S.tells service.new) page.0 into.new) }
     ensures owned { OnOk result (OwnsNone (S.tells service.new).mine) }
+    ensures refused { IfErr result
+        (Refuses (S.tells service.old) (S.tells service.new) page.0) }
+    ensures met { OnErr result (OwnedByAnother (S.tells service.old) page.0) }
 {
     service.claim_read(page, into)?;
     Ok(())
@@ -80,7 +85,9 @@ fn commit_sum<S: PageService<Sums>>(
     ensures service { SameService (S.tells service.old) (S.tells service.new) }
     ensures held { IsSome ((S.tells service.new).mine.held page.0) }
     ensures sum { OnOk result ((S.tells service.new).mine.held page.0 ≡ Some image.new) }
-    ensures number { IfOk result (Numbers true (S.tells service.old) (S.tells service.new)) }
+    ensures elsewhere { SameElsewhere (S.tells service.old).mine (S.tells service.new).mine page.0 }
+    ensures done { AddsOrFails (S.tells service.old) (S.tells service.new)
+        ordinal page.0 amount result }
 {
     let client = service.client();
     let seen = image.bytes[0];
@@ -103,7 +110,8 @@ fn commit_sum<S: PageService<Sums>>(
     }
 }
 
-/// Adds to a page's number and commits the sum. Whatever comes, the page is then in use no more.
+/// Adds to a page's number and commits the sum. Whatever comes, the page is then in use no more. Busy and a
+/// commit's fault are the service's own, and after a fault nothing is recorded.
 pub fn add<S: PageService<Sums>>(
     alloc: Global,
     service: &mut S,
@@ -118,6 +126,10 @@ pub fn add<S: PageService<Sums>>(
     requires may { MayAdd (S.tells service.old).mine page.0 ordinal }
     requires served { (s : ℕ) × S.serves service.old s }
     ensures service { SameService (S.tells service.old) (S.tells service.new) }
+    ensures ended { (S.tells service.new).mine.held page.0 ≡ None }
+    ensures elsewhere { SameElsewhere (S.tells service.old).mine (S.tells service.new).mine page.0 }
+    ensures done { AddsOrFails (S.tells service.old) (S.tells service.new)
+        ordinal page.0 amount result }
 {
     let Ok(()) = service.reserve() else {
         return Err(AddFault::OutOfMemory);

@@ -1,6 +1,6 @@
 use Rattle.std.proofs.Common.{◌∙◌, arith}
 use Rattle.ostore_page_service.specs.Servers.{side_of}
-use Rattle.ostore_service_callers.proofs.ServiceLaws.{always_ok, holds_still}
+use Rattle.ostore_service_callers.proofs.ServiceLaws.{always_ok, holds_still, third}
 use Rattle.ostore_service_callers.proofs.pairs.two_turns.Goals as goal
 
 pub one_turn-requires-2-clause-free : goal.one_turn-requires-2-clause-free
@@ -10,3 +10,8 @@ pub returns-clause-first : goal.returns-clause-first
 returns-clause-first g c =
     let after = c.one_turn-2.ensures.others 0 (omega arith) (λ e. absurd (omega arith)) in
     always_ok c.one_turn-2.result (holds_still (side_of c.one_turn.new.server 0).held (side_of c.one_turn-2.new.server 0).held c.args.one.0 c.args.two.0 after.held c.in_ok-one_turn.ensures.held)
+
+pub returns-clause-busy : goal.returns-clause-busy
+returns-clause-busy g c =
+    third c.one_turn-2.result (side_of c.args.server.now) (side_of c.one_turn.new.server) c.args.one.0 c.args.two.0 c.in_ok-one_turn.ensures.others
+    c.in_ok-one_turn.ensures.one.owned c.in_ok-one_turn.ensures.two.owned c.one_turn-2.ensures.busy
