@@ -14,3 +14,4 @@ pub mod RoomLaws
 pub mod AddingLaws
 pub mod MakeLaws
 pub mod RootLaws
+mod TestLaws

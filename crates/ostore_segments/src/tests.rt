@@ -1,19 +1,24 @@
 //! Cells placed on fresh lists of pages.
 
-ghost use Rattle.std.specs.Prelude.{◌≡◌, ◌↔◌, ◌≤◌, IsTrue, Some, IfOk, OnOk, IfSome};
+ghost use Rattle.std.specs.Prelude.{◌≡◌, ◌↔◌, ◌≤◌, ◌<◌, ◌+◌, IsTrue, Some, IfOk, OnOk, IfSome};
+ghost use Rattle.ostore_base.specs.declared.page.TheConstants.{PAGE_SIZE};
+ghost use Rattle.ostore_schema_layout.specs.Cells.{pointers_of};
 ghost use Rattle.ostore_schema_layout.specs.Lawful.{IsLawful};
 ghost use Rattle.ostore_page_tags.specs.PageChains.{IsSegment};
 ghost use Rattle.ostore_page_tags.specs.Allocated.{IsAllocated};
+ghost use Rattle.ostore_page_tags.specs.Limits.{most_roots};
+ghost use Rattle.ostore_page_tags.specs.PagePointers.{IsOneOf, page_pointers};
 ghost use Rattle.ostore_segments.specs.Serials.{AreSpent};
+ghost use Rattle.ostore_segments.specs.Edits.{IsRootAsked};
 ghost use Rattle.ostore_segments.specs.Making.{IsObjectAsked};
 ghost use Rattle.ostore_segments.specs.SchemaCells.{size_told, told_of};
 
 use super::*;
 use crate::fields::{first_of, put_number};
-use ostore_base::{OutOfMemory, PageNo, PageNos};
-use ostore_page_tags::fresh_pages;
-use ostore_page_tags::layout::LAST_SERIAL_AT;
-use ostore_schema_layout::{Schema, parse_schema};
+use ostore_base::{OutOfMemory, PageImage, PageNo, PageNos};
+use ostore_page_tags::layout::{FIRST_OPEN_PAGE, LAST_SERIAL_AT, OBJECTS_KIND};
+use ostore_page_tags::{check_page, fresh_pages, header, nth_row, rows};
+use ostore_schema_layout::{Schema, next_pointer, parse_schema};
 use std::alloc::Global;
 use std::process::Abort;
 use std::test::Fail;
@@ -224,6 +229,54 @@ fn a_full_segment_lists_its_pages(rt: HostRuntime) -> Result<(), Fail> {
     Ok(())
 }
 
+/// Grows a segment by so many pages. Whether as many were free.
+fn grow_by(pages: &mut SchemaPages<'_>, segment: u8, count: u32) -> bool
+    requires segment { IsSegment segment }
+    requires allocated { IsAllocated pages.old.pages }
+    ensures { IsAllocated pages.new.pages }
+{
+    let mut all = true;
+    for _grown in 0..count {
+        match grow_once(pages, segment) {
+            Some(_) => {}
+            None => all = false,
+        }
+    }
+    all
+}
+
+/// Grows a segment by a page.
+fn grow_once(pages: &mut SchemaPages<'_>, segment: u8) -> Option<PageNo>
+    requires segment { IsSegment segment }
+    requires allocated { IsAllocated pages.old.pages }
+    ensures { IsAllocated pages.new.pages }
+{
+    match grow(pages, segment) {
+        Ok(grown) => grown,
+        Err(fault) => match fault {},
+    }
+}
+
+#[test]
+fn two_hundred_pages_are_listed_in_chain_order(rt: HostRuntime) -> Result<(), Fail> {
+    let alloc = rt.alloc();
+    let schema = parse_schema(alloc, PARTS)?;
+    let mut pages = SchemaPages {
+        pages: fresh_pages(alloc, PARTS, 211)?,
+        schema: &schema,
+    };
+    assert_eq!(rt; grow_once(&mut pages, 255), Some(PageNo(10)));
+    assert!(rt; grow_by(&mut pages, 7, 200));
+    assert_eq!(rt; grow_once(&mut pages, 7), None);
+    let found = listed(alloc, &mut pages, 7)?;
+    assert_eq!(rt; found.items().len(), 200);
+    for (i, page) in found.items().iter().enumerate() {
+        assert_eq!(rt; page.0 as usize, 11 + i);
+    }
+    assert_eq!(rt; listed(alloc, &mut pages, 255)?.items(), [PageNo(10)].as_slice());
+    Ok(())
+}
+
 #[test]
 fn the_last_serial_is_drawn_once(rt: HostRuntime) -> Result<(), Fail> {
     let schema = parse_schema(rt.alloc(), PARTS)?;
@@ -247,4 +300,92 @@ fn a_root_has_its_name_and_its_pointer(rt: HostRuntime) {
     assert_eq!(rt; &row[5..32], [0; 27].as_slice());
     assert_eq!(rt; &row[32..], [0x20, 0xa0, 0, 0, 0, 0, 0, 0].as_slice());
     assert_eq!(rt; root_row(b"", 0), [0; 40]);
+}
+
+/// Where the first pointer of a page of objects stands, if its first cell has one.
+fn first_pointer(image: &PageImage, page: PageNo, schema: &Schema) -> Option<u16>
+    requires lawful { IsLawful schema.now }
+    ensures within { IfSome result (λ at. at + 4 ≤ PAGE_SIZE) }
+    ensures there { IfSome result
+        (λ at. IsOneOf at (page_pointers (pointers_of schema.now) page.0 image.now.bytes)) }
+{
+    if page.0 < FIRST_OPEN_PAGE || header(image).kind != OBJECTS_KIND {
+        return None;
+    }
+    if check_page(image).is_err() || rows(image) == 0 {
+        return None;
+    }
+    let row = nth_row(image, 0);
+    if !row.live || row.code == 0 || usize::from(row.code) > schema.types.items().len() {
+        return None;
+    }
+    let at = next_pointer(schema, row.code, 0)?;
+    let at = row.offset.checked_add(at)?;
+    if at > 4092 {
+        return None;
+    }
+    Some(at)
+}
+
+/// Writes the first pointer of a page of objects.
+fn write_pointer(pages: &mut SchemaPages<'_>, page: PageNo, pointer: u32) -> Option<u16>
+    requires { IsLawful pages.old.schema.now }
+{
+    if page.0 >= pages.pages.len() {
+        return None;
+    }
+    let at = first_pointer(pages.pages.page(page), page, pages.schema)?;
+    match pages.edit_pointer(page, at, pointer) {
+        Ok(()) => Some(at),
+        Err(fault) => match fault {},
+    }
+}
+
+#[test]
+fn a_pointer_is_written_into_a_cell(rt: HostRuntime) -> Result<(), Fail> {
+    let schema = parse_schema(rt.alloc(), PARTS)?;
+    let mut filled = SchemaPages {
+        pages: fresh_pages(rt.alloc(), PARTS, 11)?,
+        schema: &schema,
+    };
+    assert!(rt; fill(&mut filled, &schema, 1, 1, 2));
+    let mut pages = SchemaPages {
+        pages: filled.pages,
+        schema: &schema,
+    };
+    assert_eq!(rt; pages.pages.len(), 11);
+    let mut wanted = *pages.pages.page(PageNo(10));
+    wanted.bytes[40..44].copy_from_slice(&[0x2c, 0xa0, 0, 0]);
+    assert_eq!(rt; write_pointer(&mut pages, PageNo(10), 41_004), Some(40));
+    assert_eq!(rt; pages.pages.len(), 11);
+    assert!(rt; *pages.pages.page(PageNo(10)) == wanted);
+    Ok(())
+}
+
+/// Writes a row of the page of roots.
+fn write_root(pages: &mut SchemaPages<'_>, i: u16, name: &[u8], pointer: u32)
+    requires there { i < most_roots }
+    requires row { IsRootAsked name.now pointer }
+    requires allocated { IsAllocated pages.old.pages }
+{
+    match pages.edit_root(i, name, pointer) {
+        Ok(()) => {}
+        Err(fault) => match fault {},
+    }
+}
+
+#[test]
+fn a_root_is_written_into_its_row(rt: HostRuntime) -> Result<(), Fail> {
+    let schema = parse_schema(rt.alloc(), PARTS)?;
+    let mut pages = SchemaPages {
+        pages: fresh_pages(rt.alloc(), PARTS, 11)?,
+        schema: &schema,
+    };
+    let mut wanted = *pages.pages.page(PageNo(9));
+    wanted.bytes[4032..4036].copy_from_slice(b"\x03hub");
+    wanted.bytes[4064..4068].copy_from_slice(&[0x20, 0xa0, 0, 0]);
+    write_root(&mut pages, 100, b"hub", 40_992);
+    assert_eq!(rt; pages.pages.len(), 11);
+    assert!(rt; *pages.pages.page(PageNo(9)) == wanted);
+    Ok(())
 }
