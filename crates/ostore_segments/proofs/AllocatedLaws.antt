@@ -7,7 +7,7 @@ use Rattle.ostore_page_tags.specs.Rules.{IsPage}
 use Rattle.ostore_page_tags.proofs.shape.PageShape.{IsPage-shape}
 use Rattle.ostore_page_tags.specs.PageLists.{bytes_at, header_at, first_of, schema_bytes}
 use Rattle.ostore_page_tags.specs.PageChains.{IsSegment, IsOpen, AreChained}
-use Rattle.ostore_page_tags.specs.Allocated.{IsAllocated, IsFront, IsFreePage, IsRoots, EndsInZeros, HasChains}
+use Rattle.ostore_page_tags.specs.Allocated.{IsAllocated, IsFront, IsFreePage, IsRoots, EndsInZeros}
 use Rattle.ostore_segments.specs.Serials.{SameElsewhere}
 use Rattle.ostore_segments.specs.inside.Fields.{HasHeaderAt, BeginsWith}
 use Rattle.ostore_page_tags.proofs.allocation.ChainLaws.{IsOwned, chain_first}

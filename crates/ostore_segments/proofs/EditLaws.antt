@@ -1,5 +1,5 @@
 -- Bytes that lie beside all cells.
-use Rattle.std.proofs.Common.{◌≡◌, ◌≢◌, ℕ, ◌+◌, ◌-◌, ◌*◌, ◌≤◌, List, [], length, sym, subst, ◌∙◌, arith, inl, inr}
+use Rattle.std.proofs.Common.{◌≡◌, ℕ, ◌+◌, ◌≤◌, List, [], length, sym, subst, ◌∙◌, arith, inl, inr}
 use Rattle.std.specs.Prelude.{Option}
 use Rattle.std.specs.List.{All}
 use Rattle.byteorder.specs.Endian.{little_bytes}
@@ -7,7 +7,7 @@ use Rattle.byteorder.specs.Numbers.{length-bytes_low_first}
 use Rattle.ostore_base.specs.Disk.{replaced}
 use Rattle.ostore_page_tags.specs.Numbers.{with_number}
 use Rattle.ostore_page_tags.specs.Header.{header_of}
-use Rattle.ostore_page_tags.specs.Cells.{Cell, cells_of}
+use Rattle.ostore_page_tags.specs.Cells.{cells_of}
 use Rattle.ostore_page_tags.specs.Rules.{IsPage}
 use Rattle.ostore_page_tags.proofs.shape.PageShape.{rows_in, end_in, offset_in, IsPage-shape, end_above}
 use Rattle.ostore_page_tags.proofs.parts.ApartLaws.{IsPage-AreApart}

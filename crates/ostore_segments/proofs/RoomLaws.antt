@@ -1,8 +1,8 @@
 -- The walk over a segment's chain, and where it finds room.
-use Rattle.std.proofs.Common.{◌≡◌, ◌≢◌, ℕ, suc, ◌+◌, ◌<◌, ◌≤◌, Bool, true, false, eqb, not, ◌&&◌, ◌||◌, List, [], ◌∷◌, ◌++◌, length, get_or, refl, sym, ap, subst, ◌∙◌, arith, inr}
-use Rattle.std.specs.Prelude.{IsTrue, ◌↔◌, Option, MatchOption, Result, MatchResult}
+use Rattle.std.proofs.Common.{◌≡◌, ◌≢◌, ℕ, suc, ◌+◌, ◌≤◌, Bool, true, false, List, [], ◌∷◌, ◌++◌, length, get_or, refl, sym, ap, subst, ◌∙◌, arith}
+use Rattle.std.specs.Prelude.{IsTrue, ◌↔◌, Option, MatchOption}
 use Rattle.std.specs.List.{All, Contains}
-use Rattle.std.proofs.lemmas.Bool.{false≢true, eqb-true, ne_eqb}
+use Rattle.std.proofs.lemmas.Bool.{false≢true, eqb-true}
 use Rattle.std.proofs.lemmas.Bool.Decides.{Decides-eqb}
 use Rattle.std.proofs.lemmas.List.{append-nil, append_assoc, length-append}
 use Rattle.std.proofs.lemmas.List.Elements.{All-contains, All-append, Contains-append_right}
@@ -15,7 +15,7 @@ use Rattle.ostore_page_tags.specs.declared.page_header.PageHeader.{PageHeader}
 use Rattle.ostore_page_tags.specs.Cells.{free_bytes}
 use Rattle.ostore_page_tags.specs.PageLists.{bytes_at, header_at, first_of}
 use Rattle.ostore_segments.specs.Holdings.{PagesHeld, Becomes, Sees}
-use Rattle.ostore_page_tags.specs.PageChains.{IsWalk, last_of, IsSegment, HasHeader, IsChain}
+use Rattle.ostore_page_tags.specs.PageChains.{IsWalk, last_of, IsSegment, IsChain}
 use Rattle.ostore_page_tags.specs.Allocated.{IsAllocated, HasChain, HasFree}
 use Rattle.ostore_segments.specs.Room.{HasRoom, LacksRoom, EndsWithRoom, EndsFull, IsFirstWithRoom, LacksRoomAll, IsFull}
 use Rattle.ostore_segments.specs.Growth.{Grows}

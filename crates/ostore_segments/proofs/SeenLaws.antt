@@ -5,7 +5,6 @@ use Rattle.std.specs.List.{AllByRecursion, flat_map, range_with_len, slice_get}
 use Rattle.std.proofs.lemmas.Option.{get_or_from_slice_get}
 use Rattle.std.proofs.lemmas.Bool.{false≢true, leb-true, eqb-true}
 use Rattle.ostore_base.specs.declared.page.PageImage.{PageImage}
-use Rattle.ostore_page_tags.specs.declared.tag_rows.Row.{Row}
 use Rattle.ostore_page_tags.specs.Numbers.{number_at}
 use Rattle.ostore_page_tags.specs.Header.{header_of}
 use Rattle.ostore_page_tags.specs.Rows.{row_in}

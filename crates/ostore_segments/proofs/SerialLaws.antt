@@ -1,9 +1,7 @@
 -- What a greater last serial in a segment's first page changes.
-use Rattle.std.proofs.Common.{leb, false, ◌≤◌, ◌≡◌, ◌≢◌, ℕ, ◌+◌, ◌-◌, ◌*◌, ◌<◌, ◌⊎◌, List, length, refl, sym, ap, subst, ◌∙◌, arith, inl, inr, eqb}
-use Rattle.std.specs.declared.option.Option.{Option}
+use Rattle.std.proofs.Common.{leb, false, ◌≡◌, ◌≢◌, ℕ, ◌+◌, ◌-◌, ◌*◌, ◌<◌, ◌⊎◌, List, length, refl, sym, ap, subst, ◌∙◌, arith, inl, inr}
 use Rattle.std.specs.Prelude.{IsTrue, ◌↔◌}
-use Rattle.std.proofs.lemmas.Bool.{false≢true, leb-true, le-leb, cases_eq, eqb-true, eq-eqb}
-use Rattle.byteorder.specs.Numbers.{length-bytes_low_first}
+use Rattle.std.proofs.lemmas.Bool.{false≢true, leb-true, le-leb, cases_eq}
 use Rattle.byteorder.specs.Endian.{little_bytes}
 use Rattle.ostore_base.specs.declared.page.PageImage.{PageImage}
 use Rattle.ostore_page_tags.specs.declared.page_header.PageHeader.{PageHeader}

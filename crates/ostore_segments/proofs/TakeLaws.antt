@@ -1,9 +1,7 @@
 -- What it makes of a page list to take the head of the free list off it.
 use Rattle.std.proofs.Common.{◌≡◌, ◌≢◌, ℕ, ◌+◌, ◌-◌, ◌*◌, ◌<◌, List, length, sym, ap, subst, ◌∙◌, arith, inl, inr}
-use Rattle.std.specs.declared.option.Option.{Option}
 use Rattle.std.proofs.lemmas.Bool.{cases_eq}
 use Rattle.byteorder.specs.Endian.{little_bytes}
-use Rattle.byteorder.specs.Numbers.{length-bytes_low_first}
 use Rattle.ostore_base.specs.Disk.{replaced}
 use Rattle.ostore_base.specs.declared.page.PageImage.{PageImage}
 use Rattle.ostore_page_tags.specs.declared.page_header.PageHeader.{PageHeader}
@@ -16,11 +14,10 @@ use Rattle.ostore_segments.specs.Edits.{CanPut, PutsBesideCells}
 use Rattle.ostore_segments.specs.Holdings.{PagesTold}
 use Rattle.ostore_segments.specs.inside.Fields.{header_made, with_next, BeginsWith, Takes}
 use Rattle.ostore_page_tags.specs.PageChains.{IsSegment, IsNoFirst}
-use Rattle.ostore_page_tags.specs.Allocated.{IsAllocated, IsFront, IsFreePage}
+use Rattle.ostore_page_tags.specs.Allocated.{IsFront, IsFreePage}
 use Rattle.ostore_segments.proofs.PutLaws.{edited_length, edited_here, edited_other}
 use Rattle.ostore_segments.proofs.FieldLaws.{IsField, next_written, field_length, field_page, field_cells, field_front, field_first}
 use Rattle.ostore_segments.proofs.EditLaws.{puts_bare, puts_bare_field, puts_field}
-use Rattle.ostore_segments.proofs.SeenLaws.{no_cells}
 use Rattle.ostore_segments.proofs.AllocatedLaws.{IsHead, head_page, free_page, first_page}
 use Rattle.ostore_segments.proofs.StartLaws.{start, started, started_length, started_reads, started_empty, started_good}
 

@@ -7,7 +7,6 @@ use Rattle.ostore_base.specs.declared.page.PageImage.{PageImage}
 use Rattle.ostore_base.specs.declared.page.TheConstants.{PAGE_SIZE}
 use Rattle.byteorder.specs.Endian.{little_bytes}
 use Rattle.ostore_page_tags.specs.declared.layout.TheConstants.{ROW_BYTES, ROOTS_PAGE, ROOT_BYTES, NAME_IN_ROOT, POINTER_IN_ROOT, ZEROS_IN_ROOT}
-use Rattle.ostore_page_tags.specs.Numbers.{number_at}
 use Rattle.ostore_page_tags.specs.Header.{header_of}
 use Rattle.ostore_page_tags.specs.Cells.{Cell, cells_of, AreApart}
 use Rattle.ostore_page_tags.specs.PageLists.{bytes_at, with_bytes}

@@ -2,7 +2,7 @@
 use Rattle.std.specs.Prelude.{◌≡◌, ◌≢◌, ℕ, ◌<◌, ◌≤◌, List, [], ◌∷◌, ◌++◌, length}
 use Rattle.std.specs.List.{All, Contains}
 use Rattle.ostore_base.specs.declared.page.PageImage.{PageImage}
-use Rattle.ostore_page_tags.specs.declared.layout.TheConstants.{FIRST_OPEN_PAGE, OBJECTS_KIND}
+use Rattle.ostore_page_tags.specs.declared.layout.TheConstants.{OBJECTS_KIND}
 use Rattle.ostore_page_tags.specs.Cells.{free_bytes}
 use Rattle.ostore_page_tags.specs.PageLists.{bytes_at, header_at}
 use Rattle.ostore_page_tags.specs.PageChains.{IsOpen, last_of}

@@ -1,5 +1,5 @@
 -- What a schema tells of the cells of each code.
-use Rattle.std.specs.Prelude.{ℕ, ◌||◌, ◌&&◌, nat_le, if◌then◌else◌, Bool, true, List, [], length, Option, Some, None}
+use Rattle.std.specs.Prelude.{ℕ, ◌||◌, ◌&&◌, nat_le, if◌then◌else◌, Bool, true, [], length, Option, Some, None}
 use Rattle.ostore_schema_layout.specs.declared.schema.Schema.{Schema}
 use Rattle.ostore_schema_layout.specs.Cells.{code_size, pointers_of}
 use Rattle.ostore_page_tags.specs.Rules.{is_chunk_code}

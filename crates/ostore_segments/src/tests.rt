@@ -273,7 +273,10 @@ fn two_hundred_pages_are_listed_in_chain_order(rt: HostRuntime) -> Result<(), Fa
     for (i, page) in found.items().iter().enumerate() {
         assert_eq!(rt; page.0 as usize, 11 + i);
     }
-    assert_eq!(rt; listed(alloc, &mut pages, 255)?.items(), [PageNo(10)].as_slice());
+    assert_eq!(rt;
+        listed(alloc, &mut pages, 255)?.items(),
+        [PageNo(10)].as_slice()
+    );
     Ok(())
 }
 

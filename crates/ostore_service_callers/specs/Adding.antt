@@ -1,7 +1,6 @@
 -- What an addition changes for its client, and why there may be none.
 use Rattle.std.specs.Prelude.{◌≡◌, ◌⊎◌, ℕ, ◌+◌, ◌%◌, true, ◌∷◌, [], ◌++◌, Result, Ok, Err, slice_index}
 use Rattle.std.specs.Option.{option_map}
-use Rattle.ostore_base.specs.declared.numbers.PageNo.{PageNo}
 use Rattle.ostore_base.specs.declared.page.PageImage.{PageImage}
 use Rattle.ostore_page_service.specs.declared.answers.Busy.{Busy}
 use Rattle.ostore_page_service.specs.declared.answers.CommitFault.{CommitFault}

@@ -1,5 +1,5 @@
 -- What a caller holds.
-use Rattle.std.specs.Prelude.{◌≡◌, ◌≢◌, ℕ, ◌<◌, Bool, true, false, List, Option, Some, None, All}
+use Rattle.std.specs.Prelude.{◌≡◌, ◌≢◌, ℕ, ◌<◌, true, false, List, Option, Some, None, All}
 use Rattle.ostore_base.specs.declared.page.PageImage.{PageImage}
 use Rattle.ostore_page_service.specs.Told.{Side}
 use Rattle.ostore_service_callers.specs.declared.sums.Addition.{Addition}

@@ -1,5 +1,4 @@
 use Rattle.std.proofs.Common.{◌≡◌, ℕ, ◌+◌, ◌-◌, ◌*◌, List, ap, sym, subst, arith, ◌∙◌}
-use Rattle.std.specs.Prelude.{Option}
 use Rattle.ostore_page_tags.specs.PageLists.{header_at, with_bytes}
 use Rattle.ostore_segments.specs.Holdings.{PagesTold}
 use Rattle.ostore_segments.specs.Edits.{CanPut}

@@ -1,6 +1,6 @@
 use Rattle.std.proofs.Common.{◌∙◌, ap}
 use Rattle.ostore_segments.specs.Holdings.{PagesTold}
-use Rattle.ostore_segments.proofs.ListSteps.{Stands-both, Stands-now, Stands-weaker, Becomes-stands, Becomes-then, Becomes-weaker}
+use Rattle.ostore_segments.proofs.ListSteps.{Stands-weaker, Becomes-stands, Becomes-then, Becomes-weaker}
 use Rattle.ostore_segments.proofs.MakeLaws.{drawn_room, draws_and_adds, object_asked, some_serial}
 use Rattle.ostore_segments.proofs.objects.make_on.Goals as goal
 

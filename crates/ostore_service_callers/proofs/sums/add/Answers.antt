@@ -14,13 +14,15 @@ returns-in-Err-clause-elsewhere g c = elsewhere_then (pages_elsewhere c.args.pag
 
 pub returns-in-Err-clause-done : goal.returns-in-Err-clause-done
 returns-in-Err-clause-done g c =
-    let same = records_then c.reserve.ensures.same c.fetch.ensures.same in
-    (nothing same, record {
-      page = c.in-Err.ensures.refused.page;
-      met = inl (owned_before c.args.page.0 c.reserve.ensures.same.service c.in-Err.ensures.met);
-      counted = counted_between c.reserve.ensures.calm (counts c.in-Err.ensures.refused) (record { busy = refl; busies = refl });
-      sound = sound same;
-    })
+    let same = records_then c.reserve.ensures.same c.fetch.ensures.same in (
+      nothing same,
+      record {
+        page = c.in-Err.ensures.refused.page;
+        met = inl (owned_before c.args.page.0 c.reserve.ensures.same.service c.in-Err.ensures.met);
+        counted = counted_between c.reserve.ensures.calm (counts c.in-Err.ensures.refused) (record { busy = refl; busies = refl });
+        sound = sound same;
+      },
+    )
 
 pub returns-in-Err-claim_own-clause-service : goal.returns-in-Err-claim_own-clause-service
 returns-in-Err-claim_own-clause-service g c = same_then (same_then (same_then c.reserve.ensures.same.service c.fetch.ensures.same.service) c.claim_own.ensures.same.service) c.release.ensures.same.service
@@ -28,13 +30,15 @@ returns-in-Err-claim_own-clause-service g c = same_then (same_then (same_then c.
 pub returns-in-Err-claim_own-clause-done : goal.returns-in-Err-claim_own-clause-done
 returns-in-Err-claim_own-clause-done g c =
     let before = records_then c.reserve.ensures.same c.fetch.ensures.same in
-    let same = records_then (records_then before c.claim_own.ensures.same) c.release.ensures.same in
-    (nothing same, record {
-      page = c.in-Err-claim_own.ensures.refused.page;
-      met = inr (used_before c.args.page.0 before.service c.in-Err-claim_own.ensures.met);
-      counted = counted_between (calm_then c.reserve.ensures.calm c.in_default-fetch.ensures.claimed.calm) (counts c.in-Err-claim_own.ensures.refused) c.release.ensures.released.calm;
-      sound = sound same;
-    })
+    let same = records_then (records_then before c.claim_own.ensures.same) c.release.ensures.same in (
+      nothing same,
+      record {
+        page = c.in-Err-claim_own.ensures.refused.page;
+        met = inr (used_before c.args.page.0 before.service c.in-Err-claim_own.ensures.met);
+        counted = counted_between (calm_then c.reserve.ensures.calm c.in_default-fetch.ensures.claimed.calm) (counts c.in-Err-claim_own.ensures.refused) c.release.ensures.released.calm;
+        sound = sound same;
+      },
+    )
 
 pub returns-clause-service : goal.returns-clause-service
 returns-clause-service g c = same_then (same_then (same_then (same_then c.reserve.ensures.same.service c.fetch.ensures.same.service) c.claim_own.ensures.same.service) c.commit_sum-result.ensures.service) c.release-2.ensures.same.service

@@ -34,6 +34,9 @@ returns-in-Ok-commit-clause-done g c =
       seen = seen;
       updates = true;
     } in
-    let written = c.add.ensures.pages ∙ ap (λ (ws : Writes). ws ++ (c.args.page, image) ∷ []) c.in-Ok.ensures.pages in
-    (entry, image, adds _ _ c.args.ordinal c.args.page.0 c.args.amount c.in-Ok-commit.number entry image _ c.client-client.ensures.number refl refl refl refl
-    (first_set bytes ((seen + c.args.amount) % 256) (search rules)) written c.in-Ok-commit.ensures.numbered c.in-Ok-commit.ensures.added)
+    let written = c.add.ensures.pages ∙ ap (λ (ws : Writes). ws ++ (c.args.page, image) ∷ []) c.in-Ok.ensures.pages in (
+      entry,
+      image,
+      adds _ _ c.args.ordinal c.args.page.0 c.args.amount c.in-Ok-commit.number entry image _ c.client-client.ensures.number refl refl refl refl
+          (first_set bytes ((seen + c.args.amount) % 256) (search rules)) written c.in-Ok-commit.ensures.numbered c.in-Ok-commit.ensures.added,
+    )

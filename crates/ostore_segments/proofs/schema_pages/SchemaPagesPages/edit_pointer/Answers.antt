@@ -1,7 +1,6 @@
 use Rattle.std.proofs.Common.{◌∙◌, ap, arith, length}
 use Rattle.byteorder.specs.Numbers.{length-bytes_low_first}
-use Rattle.ostore_segments.proofs.ListSteps.{alone_becomes, alone_stands}
-use Rattle.ostore_segments.proofs.PutLaws.{edited_length}
+use Rattle.ostore_segments.proofs.ListSteps.{alone_stands}
 use Rattle.ostore_segments.proofs.schema_pages.SchemaPagesPages.edit_pointer.Goals as goal
 
 pub put_bytes-requires-clause-there : goal.put_bytes-requires-clause-there
