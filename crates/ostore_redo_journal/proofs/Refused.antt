@@ -1,13 +1,13 @@
 -- What a scan found, as what the bytes read as.
-use Rattle.std.proofs.Common.{◌≡◌, ◌≢◌, inl, inr, ℕ, suc, ◌+◌, ◌<◌, ◌≤◌, ◌^◌, List, [], ◌∷◌, ◌++◌, length, get_or, take, drop, All, Option, Some, None, IfSome, refl, sym, ◌∙◌, ap, subst, arith, append_assoc}
+use Rattle.std.proofs.Common.{◌≡◌, ◌≢◌, inl, inr, ℕ, suc, ◌+◌, ◌<◌, ◌≤◌, ◌^◌, List, [], ◌∷◌, ◌++◌, length, get_or, take, drop, All, Option, Some, None, IfSome, refl, sym, ◌∙◌, ap, subst, arith, append_assoc, length-append, ◌⊎◌}
 use Rattle.std.proofs.lemmas.List.{drop_at, take-take, get_or-drop}
-use Rattle.ostore_redo_journal.specs.Records.{Logged, record_bytes, log_bytes, IsLawful}
+use Rattle.ostore_redo_journal.specs.Records.{Logged, record_bytes, log_bytes, IsLawful, u64_at}
 use Rattle.ostore_redo_journal.specs.declared.header.Header.{Header}
 use Rattle.ostore_redo_journal.specs.declared.header.Scan.{Scan}
-use Rattle.ostore_redo_journal.specs.Headers.{HasHeader, journal_at}
+use Rattle.ostore_redo_journal.specs.Headers.{HasHeader, IsCurrent, SlotCounts, IsOurs, IsPlaced, IsNotDatabase, IsNewer, IsBadBase, journal_at}
 use Rattle.ostore_redo_journal.specs.OnDisk.{ReadsAs, IsOpened, HasRecords, IsEnd, IsBad, IsClosed, IsOld}
 use Rattle.ostore_redo_journal.proofs.RoundTrips.{length_take}
-use Rattle.ostore_redo_journal.proofs.Unique.{Ends, firsts, no_record}
+use Rattle.ostore_redo_journal.proofs.Unique.{Ends, firsts, no_record, fronts, current_unique}
 
 -- a header and records, and an end
 pub scanned : (held : List ℕ) (h : Header) (scan : Scan) → HasHeader (take 4096 held) h → journal_at h < length held → HasRecords held h scan → IsEnd h scan.records (drop scan.end held) → (rs : List Logged) × ReadsAs held h rs × (scan.records ≡ length rs)
@@ -124,3 +124,48 @@ bad_refused held h scan rs small long has bad reads =
     refused h.pages h.generation h.base has.rs rs bytes reads.rest (let most = reads.says.most in omega (arith, most)) small has.lawful reads.lawful reads.ends (sym from_has ∙ from_reads)
     (λ closed. bad.goes_on (inl closed)) (λ none other old. bad.goes_on (inr (has.records ∙ none, old)))
     (λ number r more is right same. bad.wrong r more right (same ∙ ap (λ (n : ℕ). record_bytes h.generation n r ++ more) (is ∙ let k = has.records in let e : h.base + length has.rs + 1 ≡ h.base + scan.records + 1 = omega (arith, k) in e)))
+
+end_some : (h : Header) (n : ℕ) (rest : List ℕ) → IsEnd h n rest → 0 < length rest
+end_some h n rest (inl closed) = omega (arith, ap length closed.2)
+end_some h n rest (inr old) = omega (arith, ap length old.1.1)
+
+-- what bytes begin with that read as something
+pub header_stands : (held : List ℕ) (h : Header) (rs : List Logged) → ReadsAs held h rs → HasHeader (take 4096 held) h × (journal_at h < length held)
+header_stands held h rs reads =
+    let log = log_bytes h.generation h.base rs in
+    let split : held ≡ reads.front ++ (log ++ reads.rest) = reads.split ∙ append_assoc reads.front log reads.rest in
+    let same : take 4096 reads.front ≡ take 4096 held = fronts reads.front (log ++ reads.rest) held h.pages reads.size split in
+    let some : 0 < length reads.rest = end_some h (length rs) reads.rest reads.ends in (
+      subst (λ (l : List ℕ). HasHeader l h) same reads.says,
+      omega (arith, some, reads.size, ap length split, length-append reads.front (log ++ reads.rest), length-append log reads.rest),
+    )
+
+-- a header that stands is none that is refused
+module _ (front : List ℕ) (size : ℕ) (h : Header) (has : HasHeader front h) (long : journal_at h < size) where
+  ours : IsOurs front size
+  ours = record { long = omega (arith, long); name = has.name; some = omega (arith, has.format) }
+
+  one_counts : (at : ℕ) → IsCurrent front at → SlotCounts front 64 1 ⊎ SlotCounts front 128 0
+  one_counts at (inl a) = inl a.1.counts
+  one_counts at (inr b) = inr b.1.counts
+
+  placed : IsPlaced front size
+  placed = record {
+    least = omega (arith, has.pages, has.least);
+    most = omega (arith, has.pages, has.most);
+    long = omega (arith, has.pages, long);
+    counts = one_counts has.at has.current;
+  }
+
+  is_database : IsNotDatabase front size → ⊥
+  is_database (inl none) = none ours
+  is_database (inr other) = other.2 placed
+
+  small_base : (at : ℕ) → IsBadBase front size at → ⊥
+  small_base at bad =
+      let same : has.at ≡ at = current_unique front has.at at has.current bad.current in
+      let base : h.base ≡ u64_at front (at + 5) = has.base ∙ ap (λ (n : ℕ). u64_at front (n + 5)) same in
+      omega (arith, base, has.small, bad.great)
+
+  pub not_refused : (IsNotDatabase front size → ⊥) × (IsNewer front size → ⊥) × ((at : ℕ) → IsBadBase front size at → ⊥)
+  not_refused = (is_database, λ newer. omega (arith, newer.1, has.format), small_base)

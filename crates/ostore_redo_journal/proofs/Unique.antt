@@ -66,7 +66,7 @@ log_unique limit g n (r ∷ rs) (s ∷ ss) xs ys fits small right good ends stop
     λ i. both.same i ∷ rest i
 
 -- the current slot is one at most
-current_unique : (bytes : List ℕ) (a b : ℕ) → IsCurrent bytes a → IsCurrent bytes b → a ≡ b
+pub current_unique : (bytes : List ℕ) (a b : ℕ) → IsCurrent bytes a → IsCurrent bytes b → a ≡ b
 current_unique bytes a b (inl left) (inl right) = left.0 ∙ sym right.0
 current_unique bytes a b (inr left) (inr right) = left.0 ∙ sym right.0
 current_unique bytes a b (inl left) (inr right) = absurd (let one = left.1.newer right.1.counts in let other = right.1.newer left.1.counts in omega (arith, one, other))
@@ -82,7 +82,7 @@ header_unique bytes h k left right =
     λ i. record { pages = pages i; generation = generation i; base = base i }
 
 -- the same bytes in front
-fronts : (front xs bytes : List ℕ) (pages : ℕ) → length front ≡ 4096 * (1 + pages) → bytes ≡ front ++ xs → take 4096 front ≡ take 4096 bytes
+pub fronts : (front xs bytes : List ℕ) (pages : ℕ) → length front ≡ 4096 * (1 + pages) → bytes ≡ front ++ xs → take 4096 front ≡ take 4096 bytes
 fronts front xs bytes pages size is =
     let whole : take (length front) bytes ≡ front = ap (take (length front)) is ∙ take_at front xs (length front) refl in
     ap (take 4096) (sym whole) ∙ take-take 4096 (length front) bytes (omega (arith, size))

@@ -5,7 +5,7 @@ ghost use Rattle.std.specs.Prelude.{◌≡◌, ℕ, ◌+◌, ◌*◌, ◌<◌, �
 ghost use Rattle.ostore_base.specs.declared.page.PageImage.{PageImage};
 ghost use Rattle.ostore_redo_journal.specs.declared.layout.TheConstants.{GENERATION_IN_HEAD, NUMBER_IN_HEAD, COUNT_IN_HEAD};
 ghost use Rattle.ostore_redo_journal.specs.Records.{Logged, IsLawful, behind_gate, record_in, behind_size, u16_at, u32_at, u64_at};
-ghost use Rattle.ostore_redo_journal.specs.Headers.{HasHeader, journal_at, front_of};
+ghost use Rattle.ostore_redo_journal.specs.Headers.{HasHeader, IsNotDatabase, IsNewer, IsBadBase, journal_at, front_of};
 ghost use Rattle.ostore_redo_journal.specs.OnDisk.{ReadsAs, HasRecords, IsEnd, IsBad};
 ghost use Rattle.ostore_redo_journal.specs.Last.{IsLast, newest, image_of, or_else};
 ghost use Rattle.ostore_redo_journal.specs.declared.header.Header.{Header};
@@ -44,6 +44,14 @@ pub fn bad_is_refused()
     ensures { (held : List ℕ) (h : Header) (scan : Scan) (rs : List Logged) → h.generation < 2 ^ 32
         → journal_at h < length held → HasRecords held h scan
         → IsBad h scan.records (drop scan.end held) → ReadsAs held h rs → ⊥ }
+{}
+
+/// Bytes that read as something have no header that is refused.
+pub fn read_is_not_refused()
+    ensures { (held : List ℕ) (h : Header) (rs : List Logged) → ReadsAs held h rs
+        → (IsNotDatabase (front_of held) (length held) → ⊥)
+        × (IsNewer (front_of held) (length held) → ⊥)
+        × ((at : ℕ) → IsBadBase (front_of held) (length held) at → ⊥) }
 {}
 
 /// There is one last list at most.
