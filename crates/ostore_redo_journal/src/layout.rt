@@ -1,7 +1,7 @@
-//! Where the parts of a database's bytes stand. Each place is named here alone, and docs/FORMATS.md draws
-//! them. A place counts bytes from 0: from the start of the disk where its name ends in `_AT`, else from the
-//! start of the slot, of the record's head or of the logged page that the name speaks of. The header has as
-//! many bytes as a page's image.
+//! Where the parts of a database's bytes stand. Each place is named here alone, and docs/FORMATS.md
+//! draws them. A place counts bytes from 0: from the start of the disk where its name ends in `_AT`,
+//! else from the start of the slot, of the record's head or of the logged page that the name speaks
+//! of. The header has as many bytes as a page's image.
 
 use ostore_base::PAGE_SIZE;
 
