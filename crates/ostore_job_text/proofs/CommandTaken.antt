@@ -25,7 +25,7 @@ use Rattle.ostore_graph_model.specs.declared.commands.Op.TheVariants as ops
 use Rattle.ostore_job_text.specs.CommandWords.{variable, place, name_word, path_word, operand_word, key_word, op_word, item_word, command_words}
 use Rattle.ostore_job_text.specs.WordsSaid.{variable_of, place_of, segment_of, index_of, op_of, last_of, later_of, path_of, parted_by}
 use Rattle.ostore_job_text.specs.LinesSaid.{variable_at, place_at, name_of_parts, begins_variable, operand_at, text_operand_at, var_operand_at, int_operand_at, key_at, text_key_at, int_key_at, item_at, var_item_at, new_at, find_at, root_at, set_root_at, get_at, set_at, follow_at, delete_at, insert_at, remove_at, members_at, size_at, append_at, put_at, at_at, bind_at, look_at, unbind_at, index_at, unindex_at, query_at, collection_command_at, member_command_at, command_by}
-use Rattle.ostore_job_text.specs.JobSpelling.{IsIdent, IsLawfulName, IsLawfulText, IsLawfulOperand, IsLawfulKey, IsLawfulItem, IsLawfulPath, IsLawfulPlace, IsLawfulCommand}
+use Rattle.ostore_job_text.specs.LawfulJob.{IsIdent, IsLawfulName, IsLawfulText, IsLawfulOperand, IsLawfulKey, IsLawfulItem, IsLawfulPath, IsLawfulPlace, IsLawfulCommand}
 
 -- ---- steps
 

@@ -19,7 +19,7 @@ use Rattle.ostore_job_text.proofs.WordLoops.{fails_so}
 
 -- ---- lines
 
-line_grouped : (draft : Draft) (said : LineSaid) (later : Result (List LineSaid) ℕ) → with_draft draft (later >>= λ others. Ok (said ∷ others)) ≡ with_draft (put draft said) later
+pub line_grouped : (draft : Draft) (said : LineSaid) (later : Result (List LineSaid) ℕ) → with_draft draft (later >>= λ others. Ok (said ∷ others)) ≡ with_draft (put draft said) later
 unfolding put_all
 line_grouped draft said (Err at) = refl
 line_grouped draft said (Ok others) = refl

@@ -3,4 +3,15 @@ pub mod WordLoops
 pub mod DraftLoops
 pub mod CommandTaken
 pub mod LineTaken
+pub mod JobPart
 pub mod JobTaken
+pub mod WordAgain
+pub mod CommandAgain
+pub mod LineAgain
+pub mod OptionAgain
+pub mod ClientAgain
+pub mod TurnAgain
+pub mod JobAgain
+pub mod OptionTaken
+pub mod DraftTaken
+pub mod SaidJob

@@ -7,6 +7,7 @@ pub mod WordsSaid
 pub mod LinesSaid
 pub mod Drafted
 pub mod ParsedJob
+pub mod LawfulJob
 pub mod JobSpelling
 pub mod Spelling
 pub mod Results

@@ -44,3 +44,7 @@ parsed_job text = parsed_from 0 text
 abbrev pub IsOrMemory : {A : Type 0} → Result A JobFault → Result A JobFault → Type 0
 IsOrMemory (Ok x) read = read ≡ Ok x
 IsOrMemory (Err fault) read = (fault ≡ faults.OutOfMemory) ⊎ (read ≡ Err fault)
+
+-- this job was given, unless memory ran out
+abbrev pub IsOkOrMemory : {A : Type 0} → Result A JobFault → A → Type 0
+IsOkOrMemory result x = (result ≡ Ok x) ⊎ (result ≡ Err faults.OutOfMemory)

@@ -1,5 +1,5 @@
 -- What a text for `try` says: a schema, a line `job`, and a job; and which schemas and jobs are built.
-use Rattle.std.specs.Prelude.{◌≡◌, ℕ, ◌≤◌, true, false, if◌then◌else◌, nat_le, List, [], ◌∷◌, length, take, codes, Option, Some, None, Result, Ok, Err}
+use Rattle.std.specs.Prelude.{◌≡◌, ℕ, ◌≤◌, true, false, if◌then◌else◌, nat_le, List, [], ◌∷◌, length, take, drop, codes, Option, Some, None, Result, Ok, Err}
 use Rattle.std.specs.List.{AllByRecursion}
 use Rattle.ostore_text_words.specs.Lines.{parting_of}
 use Rattle.ostore_schema_layout.specs.declared.schema.Schema.{Schema}
@@ -16,8 +16,8 @@ use Rattle.ostore_graph_model.specs.declared.commands.Txn.{Txn}
 use Rattle.ostore_job_text.specs.declared.job.Job.{Job}
 use Rattle.ostore_job_text.specs.declared.job.JobClient.{JobClient}
 use Rattle.ostore_job_text.specs.declared.input.TryInput.{TryInput}
-use Rattle.ostore_job_text.specs.Limits.{longest_text, default_tries, default_cache, default_frames}
-use Rattle.ostore_job_text.specs.ParsedJob.{parsed_from}
+use Rattle.ostore_job_text.specs.Limits.{longest_text}
+use Rattle.ostore_job_text.specs.JobSpelling.{SpellsJob}
 
 -- ---- what is built
 
@@ -61,9 +61,13 @@ schema_part text = (parts_at (parting_of (codes "job") text) text).0
 abbrev pub job_start : List ℕ → ℕ
 job_start text = (parts_at (parting_of (codes "job") text) text).1
 
--- the text spells this job from a place on, and it is built; its turns are passed over
-pub record SaysJob (start : ℕ) (text : List ℕ) (job : Job) : Type 0 where
-  pub read : parsed_from start text ≡ Ok job
+-- the part behind that line
+abbrev pub job_part : List ℕ → List ℕ
+job_part text = drop (job_start text) text
+
+-- the text spells this job, and it is built; its turns are passed over
+pub record SaysJob (text : List ℕ) (job : Job) : Type 0 where
+  pub spelled : SpellsJob text job
   pub built : AreBuiltClients job.clients
 
 -- the text says this input, which is built
@@ -71,7 +75,7 @@ pub record Says (text : List ℕ) (input : TryInput) : Type 0 where
   pub short : length text ≤ longest_text
   pub schema : Spells (schema_part text) input.schema
   pub types : AreBuiltTypes input.schema.types
-  pub job : SaysJob (job_start text) text input.job
+  pub job : SaysJob (job_part text) input.job
 
 -- the text says no input that is built
 abbrev pub IsRefused : List ℕ → Type 0

@@ -4,6 +4,7 @@
 mod fault;
 mod input;
 mod job;
+mod laws;
 mod print;
 mod reading;
 mod report;
@@ -15,6 +16,7 @@ pub use input::TryInput;
 pub use job::{
     DEFAULT_CACHE, DEFAULT_FRAMES, DEFAULT_TRIES, Job, JobClient, JobClients, JobTurn, JobTurns,
 };
+pub use laws::{one_job_is_spelled, read_is_spelled, spelled_is_read};
 pub use print::print_job;
 pub use reading::{LONGEST_TEXT, TryFault, parse_job, read_try_input};
 pub use report::{print_job_fault, print_report, print_schema_fault};

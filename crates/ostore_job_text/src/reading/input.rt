@@ -1,10 +1,12 @@
 //! The whole text.
 
-ghost use Rattle.std.specs.Prelude.{◌≡◌, IfOk, Err, None, Some};
+ghost use Rattle.std.specs.Prelude.{◌≡◌, ◌≤◌, length, drop, IfOk, Err, None, Some};
 ghost use Rattle.ostore_schema_layout.specs.declared.fault.SchemaFault.{SchemaFault};
 ghost use Rattle.ostore_job_text.specs.declared.job.Job.{Job};
 ghost use Rattle.ostore_job_text.specs.declared.input.TryInput.{TryInput};
 ghost use Rattle.ostore_job_text.specs.Spelling.{Says, SaysJob, IsRefusedFor, schema_part, job_start};
+ghost use Rattle.ostore_job_text.specs.Limits.{longest_text};
+ghost use Rattle.ostore_job_text.specs.inside.BuiltJob.{ReadsJob};
 
 use crate::fault::JobFault;
 use crate::input::TryInput;
@@ -36,10 +38,10 @@ enum JobRefused {
 
 /// The job from a place on, where it is built.
 fn read_built_job(alloc: Global, text: &[u8], start: usize) -> Result<Job, JobRefused>
-    ensures read { IfOk result (λ job. SaysJob start text.now job) }
-    ensures only { IfOk result (λ job. (other : Job) → SaysJob start text.now other → other ≡ job) }
+    ensures read { IfOk result (λ job. ReadsJob start text.now job) }
+    ensures only { IfOk result (λ job. (other : Job) → ReadsJob start text.now other → other ≡ job) }
     ensures refused { result ≡ Err JobRefused.Refused
-        → (job : Job) → SaysJob start text.now job → ⊥ }
+        → (job : Job) → ReadsJob start text.now job → ⊥ }
 {
     match read_job_from(alloc, text, start) {
         Err(JobFault::OutOfMemory) => Err(JobRefused::OutOfMemory),
@@ -51,6 +53,18 @@ fn read_built_job(alloc: Global, text: &[u8], start: usize) -> Result<Job, JobRe
             Ok(job)
         }
     }
+}
+
+/// The job that the text spells from a place on, where it is built.
+fn read_said_job(alloc: Global, text: &[u8], start: usize) -> Result<Job, JobRefused>
+    requires { length text.now ≤ longest_text }
+    ensures read { IfOk result (λ job. SaysJob (drop start text.now) job) }
+    ensures only { IfOk result
+        (λ job. (other : Job) → SaysJob (drop start text.now) other → other ≡ job) }
+    ensures refused { result ≡ Err JobRefused.Refused
+        → (job : Job) → SaysJob (drop start text.now) job → ⊥ }
+{
+    read_built_job(alloc, text, start)
 }
 
 /// Reads a text for `try`: a schema, and behind the line `job` a job, which run. A fault of the schema's part comes
@@ -78,7 +92,7 @@ pub fn read_try_input(alloc: Global, text: &[u8]) -> Result<TryInput, TryFault>
     if !are_built_types(schema.types.items()) {
         return Err(TryFault::Refused);
     }
-    match read_built_job(alloc, text, start) {
+    match read_said_job(alloc, text, start) {
         Ok(job) => Ok(TryInput { schema, job }),
         Err(JobRefused::Refused) => Err(TryFault::Refused),
         Err(JobRefused::OutOfMemory) => Err(TryFault::OutOfMemory),

@@ -3,8 +3,9 @@
 ghost use Rattle.std.specs.Prelude.{◌≡◌, ◌⊎◌, ◌+◌, ◌^◌, ◌<◌, ◌≤◌, length, drop, IfOk, IfSome};
 ghost use Rattle.ostore_text_words.specs.Gives.{GivesSame};
 ghost use Rattle.ostore_text_words.specs.Lines.{utf8_fault};
-ghost use Rattle.ostore_job_text.specs.ParsedJob.{IsOrMemory, drafted, job_drafted, parsed_from, parsed_job};
+ghost use Rattle.ostore_job_text.specs.ParsedJob.{IsOkOrMemory, IsOrMemory, drafted, job_drafted, parsed_from, parsed_job};
 ghost use Rattle.ostore_job_text.specs.JobSpelling.{SpellsJob};
+ghost use Rattle.ostore_job_text.specs.declared.job.Job.{Job};
 
 use super::draft::Draft;
 use super::lines::{ends, stand_after, take_line};
@@ -82,6 +83,8 @@ pub fn parse_job(alloc: Global, bytes: &[u8]) -> Result<Job, JobFault>
     ensures exact { IsOrMemory result (parsed_job bytes.now) }
     // What is read is spelled in the text.
     ensures read { IfOk result (λ job. SpellsJob bytes.now job) }
+    // What is spelled in the text is read, and nothing else.
+    ensures spelled { (job : Job) → SpellsJob bytes.now job → IsOkOrMemory result job }
 {
     read_job_from(alloc, bytes, 0)
 }
