@@ -24,8 +24,8 @@ use Rattle.ostore_graph_model.specs.Heap.{Heap, name_at, name_in, IsObject, HasM
 use Rattle.ostore_graph_model.specs.HeapRules.{KeepsChains}
 use Rattle.ostore_graph_model.specs.Chunks.{ChunkEntry}
 use Rattle.ostore_graph_model.specs.Records.{Slot, Links, RowTag, HeapCell, heap_cell, heap_of}
-use Rattle.ostore_graph_model.specs.Links.{comes_first}
-use Rattle.ostore_graph_model.specs.StandsFor.{IsLink, HasPair, HasObject, ShowsObjects, ShowsPairs}
+use Rattle.ostore_graph_model.specs.Links.{comes_first, IsLink}
+use Rattle.ostore_graph_model.specs.StandsFor.{HasPair, HasObject, ShowsObjects, ShowsPairs}
 use Rattle.ostore_graph_model.proofs.OrderLaws.{name_cmp-IsTotalOrder, name_cmp-IsAntisymmetric, pair_cmp-IsTotalOrder, pair_cmp-IsAntisymmetric}
 use Rattle.ostore_graph_model.proofs.ObjectLaws.{Values, AreNamesOwn, named_object, same_object}
 use Rattle.ostore_graph_model.proofs.ReferenceLaws.{same_tags, same_slots}

@@ -8,8 +8,10 @@ pub mod StepLaws
 pub mod GrowthLaws
 pub mod Computing
 pub mod Rows
+pub mod PassedLaws
 pub mod LiveLaws
 pub mod OnePartnerLaws
+pub mod Kept
 pub mod AddLaw
 pub mod AddressLaws
 pub mod AllocationLaws

@@ -32,7 +32,8 @@ use Rattle.ostore_graph_model.specs.Deeds.{Vars, Stepped, Deed, Test, LiveMember
 use Rattle.ostore_graph_model.specs.Deeds.Objects.{next_name, new_object, with_new, without_object}
 use Rattle.ostore_graph_model.specs.Deeds.Collections.{items_of, out_of_range}
 use Rattle.ostore_graph_model.specs.Step.{Task, Line, line_of, line_tests, member_tests, member_gives, task_tests, task_gives, is_dangling, is_unbound, step, Steps}
-use Rattle.ostore_graph_model.specs.LiveGraphs.{IsLive, HoldsLive, LawOfLiveGraphs, LawOfEmptyGraph}
+use Rattle.ostore_graph_model.specs.LiveGraphs.{IsLive, HoldsLive, LawOfLiveGraphs}
+use Rattle.ostore_graph_model.proofs.PassedLaws.{split, passes, one_live, two_live, TaskMay, step_may}
 use Rattle.ostore_graph_model.proofs.StepLaws.{task_keeps, names_new}
 use Rattle.std.proofs.lemmas.List.{length-set}
 use Rattle.ostore_graph_model.proofs.KeyLaws.{key_cmp-IsTotalOrder}
@@ -70,13 +71,13 @@ module _ {K X : Type 0} {R : K → K → Ordering} (o : IsTotalOrder R) (same : 
   pub in_retained : (m : maps.FinMap R X) (p : K → Bool) (q : K) → maps.contains_key (maps.retain_keys m p) q ≡ true → (p q ≡ true) × (maps.contains_key m q ≡ true)
   in_retained m p q there = kept_some (p q) (maps.get m q) (sym (ap is_some (retained m p q)) ∙ there)
 
-  value_retained : (m : maps.FinMap R X) (p : K → Bool) (q : K) (x : X) → maps.get (maps.retain_keys m p) q ≡ Some x → (p q ≡ true) × (maps.get m q ≡ Some x)
+  pub value_retained : (m : maps.FinMap R X) (p : K → Bool) (q : K) (x : X) → maps.get (maps.retain_keys m p) q ≡ Some x → (p q ≡ true) × (maps.get m q ≡ Some x)
   value_retained m p q x there = kept_value (p q) (maps.get m q) x (sym (retained m p q) ∙ there)
 
   pub in_removed : (m : maps.FinMap R X) (k q : K) → maps.contains_key (maps.remove m k) q ≡ true → maps.contains_key m q ≡ true
   in_removed m k q there = (other_some (eq_by_cmp R q k) (maps.get m q) (sym (ap is_some (maps.get-remove o m k q)) ∙ there)).1
 
-  value_removed : (m : maps.FinMap R X) (k q : K) (x : X) → maps.get (maps.remove m k) q ≡ Some x → maps.get m q ≡ Some x
+  pub value_removed : (m : maps.FinMap R X) (k q : K) (x : X) → maps.get (maps.remove m k) q ≡ Some x → maps.get m q ≡ Some x
   value_removed m k q x there = (other_value (eq_by_cmp R q k) (maps.get m q) x (sym (maps.get-remove o m k q) ∙ there)).1
 
   still_there : (m : maps.FinMap R X) (k : K) (v : X) (q : K) → maps.contains_key m q ≡ true → maps.contains_key (maps.insert m k v) q ≡ true
@@ -96,7 +97,7 @@ module _ {K X : Type 0} {R : K → K → Ordering} (o : IsTotalOrder R) (same : 
     value_by_test true tie there = subst (λ y. P y x) (sym (tied_same same q k tie)) (subst (P k) (same_value v x there) here)
     value_by_test false apart there = was there
 
-    new_or_old_value : maps.get (maps.insert m k v) q ≡ Some x → P q x
+    pub new_or_old_value : maps.get (maps.insert m k v) q ≡ Some x → P q x
     new_or_old_value there = value_by_test (eq_by_cmp R q k) refl (sym (maps.get-insert o m k v q) ∙ there)
 
 -- ---- changes of one part of a graph
@@ -243,71 +244,6 @@ module _ (schema : Schema) (graph : Graph) (was : HoldsLive schema graph) where
             live index.set.object (not_false _ kept.0) (was.indexes index kept.1);
       }
 
--- ---- what a command that isn't refused knows
-
-split : (test : Test) (tests : List Test) → first_refusal (test ∷ tests) ≡ None → (test ≡ None) × (first_refusal tests ≡ None)
-split None tests e = (refl, e)
-split (Some refusal) tests e = absurd cc
-
-passes : (fails : Bool) (refusal : Refusal) → refused_where fails refusal ≡ None → fails ≡ false
-passes true refusal e = absurd cc
-passes false refusal e = refl
-
-one_live : (a : Bool) → (not a || false) ≡ false → a ≡ true
-one_live true e = refl
-one_live false e = absurd cc
-
-two_live : (a b : Bool) → (not a || (not b || false)) ≡ false → (a ≡ true) × (b ≡ true)
-two_live true true e = (refl, refl)
-two_live true false e = absurd cc
-two_live false b e = absurd cc
-
-owner_of_def : (x : Name) (place : TypeMember) (def : Option MemberDef) (at : LiveMember) → option_map (λ d. record { owner = x; at = place; def = d }) def ≡ Some at → x ≡ at.owner
-owner_of_def x place None at e = absurd cc
-owner_of_def x place (Some def) at e = ap (λ (o : Option LiveMember). (unwrap_or o at).owner) e
-
-owner_of : (schema : Schema) (x : Name) (ty : TypeNo) (number : Option MemberNo) (at : LiveMember)
-    → option_and_then (λ n. member_at_type schema x (record { ty = ty; member = n })) number ≡ Some at → x ≡ at.owner
-owner_of schema x ty None at e = absurd cc
-owner_of schema x ty (Some n) at e = owner_of_def x (record { ty = ty; member = n }) (def_of schema (record { ty = ty; member = n })) at e
-
--- where nothing of a task refuses it, its effect has P
-abbrev pub TaskMay : (Stepped → Type 0) → Vars → Task → Type 0
-TaskMay P vars (Task.on_graph deed) = first_refusal deed.tests ≡ None → P deed.gives
-TaskMay P vars (Task.on_member object member kind deed) = (at : LiveMember) → bound_to vars object ≡ at.owner → first_refusal (deed at).tests ≡ None → P (deed at).gives
-
-module _ (P : Stepped → Type 0) (schema : Schema) (vars : Vars) (graph : Graph) (no : (refusal : Refusal) → P (refused refusal vars graph)) where
-  member_may : (object : List ℕ) (kind : MemberKind → Bool) (deed : LiveMember → Deed) (found : Option LiveMember)
-      → ((at : LiveMember) → found ≡ Some at → bound_to vars object ≡ at.owner)
-      → ((at : LiveMember) → bound_to vars object ≡ at.owner → first_refusal (deed at).tests ≡ None → P (deed at).gives)
-      → first_refusal (member_tests schema vars graph kind deed found) ≡ None → P (member_gives schema vars graph deed found)
-  member_may object kind deed None own has passed = absurd cc
-  member_may object kind deed (Some at) own has passed = has at (own at refl) (split (refused_where (not (kind at.def.kind)) WrongKind) (deed at).tests passed).1
-
-  task_may : (task : Task) → TaskMay P vars task → first_refusal (task_tests schema vars graph task) ≡ None → P (task_gives schema vars graph task)
-  task_may (Task.on_graph deed) has passed = has passed
-  task_may (Task.on_member object member kind deed) has passed =
-      member_may object kind deed (live_member schema graph (bound_to vars object) member)
-      (λ at found. owner_of schema (bound_to vars object) (object_of graph (bound_to vars object)).ty (member_named schema (object_of graph (bound_to vars object)).ty member) at found)
-      has passed
-
-  unless : (o : Option Refusal) (effect : Stepped) → (o ≡ None → P effect) → P (refused_or o vars graph effect)
-  unless None effect has = has refl
-  unless (Some refusal) effect has = no refusal
-
-  pub step_may : (update : Bool) (command : Command)
-      → (list_any (is_dangling schema vars graph) (line_of schema vars graph command).reads ≡ false → TaskMay P vars (line_of schema vars graph command).task)
-      → P (step schema update vars graph command)
-  step_may update command may =
-      let line = line_of schema vars graph command in
-      let own = task_tests schema vars graph line.task in
-      let dangling = refused_where (list_any (is_dangling schema vars graph) line.reads) Dangling in
-      let unbound = refused_where (list_any (is_unbound schema vars graph) line.reads) NoVariable in
-      unless (first_refusal (line_tests schema vars graph update line)) (task_gives schema vars graph line.task) (λ passed.
-      let bound = split unbound (dangling ∷ own) (split (refused_where (line.writes && not update) ReadOnly) (unbound ∷ dangling ∷ own) passed).1 in
-      let live = split dangling own bound.1 in
-      task_may line.task (may (passes (list_any (is_dangling schema vars graph) line.reads) Dangling live.0)) live.1)
-
 -- ---- command by command
 
 not_empty : {X : Type 0} (xs : List X) → 1 ≤ length xs → xs ≢ []
@@ -334,38 +270,38 @@ module _ (schema : Schema) (vars : Vars) (graph : Graph) (was : HoldsLive schema
       (names_new vars graph to segment object (next_name graph segment) refl).1
       (λ old. task_keeps schema vars graph q (New to ty segment) (was.drawn q old)) there)
 
-  may : (command : Command) → list_any (is_dangling schema vars graph) (line_of schema vars graph command).reads ≡ false → TaskMay Live vars (line_of schema vars graph command).task
+  may : (command : Command) → list_any (is_dangling schema vars graph) (line_of schema vars graph command).reads ≡ false → TaskMay Live schema graph vars (line_of schema vars graph command).task
   may (New to ty segment) live = λ passed. made to ty segment
   may (Find to name) live = λ passed. was
   may (Root to root) live = λ passed. was
   may (SetRoot root (Some item)) live = λ passed. roots_changed schema graph was _
   may (SetRoot root None) live = λ passed. roots_changed schema graph was _
   may (Get object member) live = λ at own passed. was
-  may (Set object member (operands.Int value)) live = λ at own passed. object_put schema graph was at.owner _ (owner_lives (bound_to vars object) at.owner own (one_live (is_live graph (bound_to vars object)) live))
-  may (Set object member (operands.Text value)) live = λ at own passed. object_put schema graph was at.owner _ (owner_lives (bound_to vars object) at.owner own (one_live (is_live graph (bound_to vars object)) live))
+  may (Set object member (operands.Int value)) live = λ at own passed. object_put schema graph was at.owner _ (owner_lives (bound_to vars object) at.owner own.owner (one_live (is_live graph (bound_to vars object)) live))
+  may (Set object member (operands.Text value)) live = λ at own passed. object_put schema graph was at.owner _ (owner_lives (bound_to vars object) at.owner own.owner (one_live (is_live graph (bound_to vars object)) live))
   may (Set object member (operands.Var item)) live = λ at own passed.
-      let both = two_live (is_live graph (bound_to vars object)) (is_live graph (bound_to vars item)) live in joined_keeps schema graph was at.at at.owner (bound_to vars item) (owner_lives (bound_to vars object) at.owner own both.0) both.1
+      let both = two_live (is_live graph (bound_to vars object)) (is_live graph (bound_to vars item)) live in joined_keeps schema graph was at.at at.owner (bound_to vars item) (owner_lives (bound_to vars object) at.owner own.owner both.0) both.1
   may (Set object member operands.Null) live = λ at own passed. some_pairs schema graph was _
   may (Follow to object member) live = λ at own passed. was
   may (Delete object) live = λ passed. gone schema graph was (bound_to vars object)
   may (Insert object member item) live = λ at own passed.
-      let both = two_live (is_live graph (bound_to vars object)) (is_live graph (bound_to vars item)) live in joined_keeps schema graph was at.at at.owner (bound_to vars item) (owner_lives (bound_to vars object) at.owner own both.0) both.1
+      let both = two_live (is_live graph (bound_to vars object)) (is_live graph (bound_to vars item)) live in joined_keeps schema graph was at.at at.owner (bound_to vars item) (owner_lives (bound_to vars object) at.owner own.owner both.0) both.1
   may (Remove object member item) live = λ at own passed. less_pair schema graph was _
   may (Members object member) live = λ at own passed. was
   may (Size object member) live = λ at own passed. was
   may (Append object member item) live = λ at own passed.
-      let both = two_live (is_live graph (bound_to vars object)) (is_live graph (bound_to vars item)) live in list_put schema graph was (own_member at) _ (appended (items_of graph at) (bound_to vars item)) (owner_lives (bound_to vars object) at.owner own both.0)
+      let both = two_live (is_live graph (bound_to vars object)) (is_live graph (bound_to vars item)) live in list_put schema graph was (own_member at) _ (appended (items_of graph at) (bound_to vars item)) (owner_lives (bound_to vars object) at.owner own.owner both.0)
   may (Put object member index item) live = λ at own passed.
       let both = two_live (is_live graph (bound_to vars object)) (is_live graph (bound_to vars item)) live in
       let within = leb-false (length (items_of graph at)) index (passes (nat_le (length (items_of graph at)) index) OutOfRange (split (out_of_range graph at index) [] (split (of_other_type graph at (bound_to vars item)) (out_of_range graph at index ∷ []) passed).1).0) in
       list_put schema graph was (own_member at) _
-      (not_empty (slice_set (items_of graph at) index (bound_to vars item)) (omega (arith, within, length-set (items_of graph at) index (bound_to vars item)))) (owner_lives (bound_to vars object) at.owner own both.0)
+      (not_empty (slice_set (items_of graph at) index (bound_to vars item)) (omega (arith, within, length-set (items_of graph at) index (bound_to vars item)))) (owner_lives (bound_to vars object) at.owner own.owner both.0)
   may (At to object member index) live = λ at own passed. was
   may (Bind object member key item) live = λ at own passed.
-      let both = two_live (is_live graph (bound_to vars object)) (is_live graph (bound_to vars item)) live in dictionary_put schema graph was (own_member at) _ (owner_lives (bound_to vars object) at.owner own both.0)
+      let both = two_live (is_live graph (bound_to vars object)) (is_live graph (bound_to vars item)) live in dictionary_put schema graph was (own_member at) _ (owner_lives (bound_to vars object) at.owner own.owner both.0)
   may (Look to object member key) live = λ at own passed. was
-  may (Unbind object member key) live = λ at own passed. dictionary_put schema graph was (own_member at) _ (owner_lives (bound_to vars object) at.owner own (one_live (is_live graph (bound_to vars object)) live))
-  may (Index object member path) live = λ at own passed. index_put schema graph was _ (owner_lives (bound_to vars object) at.owner own (one_live (is_live graph (bound_to vars object)) live))
+  may (Unbind object member key) live = λ at own passed. dictionary_put schema graph was (own_member at) _ (owner_lives (bound_to vars object) at.owner own.owner (one_live (is_live graph (bound_to vars object)) live))
+  may (Index object member path) live = λ at own passed. index_put schema graph was _ (owner_lives (bound_to vars object) at.owner own.owner (one_live (is_live graph (bound_to vars object)) live))
   may (Unindex object member path) live = λ at own passed. index_removed schema graph was _
   may (Query object member path op key) live = λ at own passed. was
 
@@ -386,8 +322,8 @@ nowhere : {X : Type 0} (o : Option X) → o ≡ None → is_some o ≡ true → 
 nowhere None none there = cc
 nowhere (Some y) none there = cc
 
-pub law_of_empty_graph : LawOfEmptyGraph
-law_of_empty_graph schema = record {
+pub empty_holds_live : (schema : Schema) → HoldsLive schema empty_graph
+empty_holds_live schema = record {
   drawn = λ x there. absurd (nowhere _ (maps.get-empty name_cmp x) there);
   first = λ pair there. absurd (nowhere _ (maps.get-empty pair_cmp pair) there);
   second = λ pair there two. absurd (nowhere _ (maps.get-empty pair_cmp pair) there);

@@ -20,7 +20,8 @@ use Rattle.ostore_graph_model.specs.Links.{comes_first, member_of_inverse, pair_
 use Rattle.ostore_graph_model.specs.Deeds.{Vars, Stepped, bound_to}
 use Rattle.ostore_graph_model.specs.Step.{line_of, is_dangling, step}
 use Rattle.ostore_graph_model.specs.LiveGraphs.{HasOnePartner, LawOfOnePartner}
-use Rattle.ostore_graph_model.proofs.LiveLaws.{TaskMay, step_may, in_retained, in_removed, new_or_old}
+use Rattle.ostore_graph_model.proofs.PassedLaws.{TaskMay, step_may}
+use Rattle.ostore_graph_model.proofs.LiveLaws.{in_retained, in_removed, new_or_old}
 use Rattle.ostore_graph_model.proofs.SideLaws.{two_sided}
 use Rattle.ostore_graph_model.proofs.OrderLaws.{same_tied, name_cmp-IsTotalOrder, type_member_cmp-IsTotalOrder, pair_cmp-IsTotalOrder, pair_cmp-IsAntisymmetric}
 
@@ -206,7 +207,7 @@ module _ (schema : Schema) (lawful : IsLawful schema) where
     some : (test : Pair → Bool) → OnePartner (sets.retain graph.pairs test)
     some test = fewer graph.pairs (sets.retain graph.pairs test) (λ pair there. (in_retained pair_cmp-IsTotalOrder pair_cmp-IsAntisymmetric graph.pairs test pair there).1) was
 
-    may : (command : Command) → TaskMay One vars (line_of schema vars graph command).task
+    may : (command : Command) → TaskMay One schema graph vars (line_of schema vars graph command).task
     may (New to ty segment) = λ passed. was
     may (Find to name) = λ passed. was
     may (Root to root) = λ passed. was

@@ -24,8 +24,8 @@ use Rattle.ostore_graph_model.specs.Heap.{Heap, tag_at, code_at, name_at, name_i
 use Rattle.ostore_graph_model.specs.HeapRules.{LeadsToChunk, HasGoodPointers, KeepsPointers}
 use Rattle.ostore_graph_model.proofs.JoinedFacts.{is_from, parted_from, joined_alone}
 use Rattle.ostore_graph_model.specs.Records.{Slot, Links, RowTag, HeapCell}
-use Rattle.ostore_graph_model.specs.Links.{comes_first}
-use Rattle.ostore_graph_model.specs.StandsFor.{IsLink, Joins, HasPair, HasObject, ShowsObjects, ShowsPairs}
+use Rattle.ostore_graph_model.specs.Links.{comes_first, IsLink}
+use Rattle.ostore_graph_model.specs.StandsFor.{Joins, HasPair, HasObject, ShowsObjects, ShowsPairs}
 use Rattle.ostore_graph_model.proofs.AddressLaws.{slice_get-set_same, slice_get-set_other}
 use Rattle.ostore_graph_model.proofs.OrderLaws.{tied_same, same_tied, type_member_cmp-IsTotalOrder, type_member_cmp-IsAntisymmetric, name_cmp-IsTotalOrder, name_cmp-IsAntisymmetric, pair_cmp-IsTotalOrder, pair_cmp-IsAntisymmetric}
 use Rattle.ostore_graph_model.proofs.ObjectLaws.{Values, AreNamesOwn, named_object, same_object}

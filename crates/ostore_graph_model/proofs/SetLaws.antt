@@ -18,8 +18,8 @@ use Rattle.ostore_graph_model.specs.CollectionEdits.{entry_items, type_member}
 use Rattle.ostore_graph_model.specs.Heap.{Heap, name_at, name_in, live_cell}
 use Rattle.ostore_graph_model.specs.HeapRules.{KeepsPointers, KeepsItems, KeepsChains}
 use Rattle.ostore_graph_model.specs.Records.{CollectionHead, Slot, Links, RowTag}
-use Rattle.ostore_graph_model.specs.Links.{comes_first}
-use Rattle.ostore_graph_model.specs.StandsFor.{IsLink, Joins, ShowsPairs}
+use Rattle.ostore_graph_model.specs.Links.{comes_first, IsLink}
+use Rattle.ostore_graph_model.specs.StandsFor.{Joins, ShowsPairs}
 use Rattle.ostore_graph_model.proofs.ObjectLaws.{AreNamesOwn, named_object}
 use Rattle.ostore_graph_model.proofs.ChainLaws.{chain_unique}
 use Rattle.ostore_graph_model.proofs.ReferenceLaws.{same_tags, same_slots}

@@ -20,12 +20,12 @@ use Rattle.ostore_schema_layout.specs.Lawful.{link_target, inverse_of, IsTwoSide
 use Rattle.ostore_schema_layout.proofs.lawful.LawfulLawsPlaces.{lawful_type, lawful_member, member_stands, stands}
 use Rattle.ostore_graph_model.specs.declared.values.Name.{Name}
 use Rattle.ostore_graph_model.specs.Orders.{TypeMember, type_member_cmp, Pair, pair_cmp}
-use Rattle.ostore_graph_model.specs.Links.{member_of_inverse, comes_first, pair_from, inverse_at}
+use Rattle.ostore_graph_model.specs.Links.{member_of_inverse, comes_first, pair_from, inverse_at, IsLink}
 use Rattle.ostore_graph_model.specs.Chains.{item_type}
 use Rattle.ostore_graph_model.specs.Heap.{Heap, name_in}
 use Rattle.ostore_graph_model.specs.HeapRules.{KeepsPointers, KeepsItems, KeepsLinks}
 use Rattle.ostore_graph_model.specs.Records.{heap_of}
-use Rattle.ostore_graph_model.specs.StandsFor.{IsLink, Joins, ShowsPairs}
+use Rattle.ostore_graph_model.specs.StandsFor.{Joins, ShowsPairs}
 use Rattle.ostore_graph_model.specs.LawsOfLinks.{LawOfSides}
 use Rattle.ostore_graph_model.proofs.OrderLaws.{type_member_cmp-IsTotalOrder, type_member_cmp-IsAntisymmetric}
 use Rattle.ostore_graph_model.proofs.ObjectLaws.{tag_of_cell}
@@ -55,7 +55,7 @@ target_type (kinds.DictInt target) ty e = absurd (none-some ty e)
 target_type (kinds.DictText target) ty e = absurd (none-some ty e)
 
 -- the one of two sides that doesn't come first comes second
-other_first : (one other : TypeMember) → is_lt (type_member_cmp one other) ≡ false → one ≢ other → is_lt (type_member_cmp other one) ≡ true
+pub other_first : (one other : TypeMember) → is_lt (type_member_cmp one other) ≡ false → one ≢ other → is_lt (type_member_cmp other one) ≡ true
 other_first one other later apart = by (type_member_cmp one other) refl
   where
     by : (order : Ordering) → type_member_cmp one other ≡ order → is_lt (type_member_cmp other one) ≡ true

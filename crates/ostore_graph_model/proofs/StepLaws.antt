@@ -299,3 +299,16 @@ law_of_answers schema update vars graph (command ∷ commands) [] answers = absu
 law_of_answers schema update vars graph (command ∷ commands) (reply ∷ others) answers =
     ap (λ (first : Stepped). first.reply ∷ (run_from schema update first.vars first.graph commands).replies) answers.2
     ∙ ap (λ (rs : List Reply). reply ∷ rs) (law_of_answers schema update answers.0 answers.1 commands others answers.3)
+
+-- the graph on which the commands after those that are answered are made
+abbrev pub last_graph : (schema : Schema) (update : Bool) (vars : Vars) (graph : Graph) (commands : List Command) (replies : List Reply) → Answers schema update vars graph commands replies → Graph
+last_graph schema update vars graph [] replies answers = graph
+last_graph schema update vars graph (command ∷ commands) [] answers = absurd answers
+last_graph schema update vars graph (command ∷ commands) (reply ∷ replies) answers = last_graph schema update answers.0 answers.1 commands replies answers.3
+
+pub graph_left : (schema : Schema) (update : Bool) (vars : Vars) (graph : Graph) (commands : List Command) (replies : List Reply) (answers : Answers schema update vars graph commands replies)
+    → (run_from schema update vars graph commands).graph ≡ last_graph schema update vars graph commands replies answers
+graph_left schema update vars graph [] replies answers = refl
+graph_left schema update vars graph (command ∷ commands) [] answers = absurd answers
+graph_left schema update vars graph (command ∷ commands) (reply ∷ replies) answers =
+    ap (λ (first : Stepped). (run_from schema update first.vars first.graph commands).graph) answers.2 ∙ graph_left schema update answers.0 answers.1 commands replies answers.3

@@ -11,10 +11,12 @@ pub mod Step
 pub mod Transaction
 pub mod LawsOfSteps
 pub mod LiveGraphs
+pub mod GraphRules
 pub mod History
 pub mod LawsOfHistories
 pub mod Growth
 pub mod Examples
+pub mod FullGraphs
 -- What a list of pages says: cells, values, what leads on, and who owns it.
 pub mod Limits
 pub mod Addresses

@@ -1,13 +1,14 @@
 -- Links and *Side*. A link is a reference or a set without inverse, or two that name each other as inverses; it
 -- goes by the member that comes first in the schema's text. What a member of a link shows of an object are its
 -- partners in the link's pairs.
-use Rattle.std.specs.Prelude.{ℕ, Bool, true, false, not, ◌&&◌, ◌||◌, is_some, if◌then◌else◌, List, map, filter, Option, Some, None}
+use Rattle.std.specs.Prelude.{◌≡◌, ◌≢◌, ℕ, Bool, true, false, IsTrue, not, ◌&&◌, ◌||◌, is_some, if◌then◌else◌, List, map, filter, Option, Some, None}
 use Rattle.std.specs.Option.{option_map, option_and_then, option_map_or}
 use Rattle.std.specs.Ordering.{eq_by_cmp, is_lt}
 use Rattle.ostore_schema_layout.specs.declared.schema.Schema.{Schema}
 use Rattle.ostore_schema_layout.specs.declared.schema.MemberDef.{MemberDef}
 use Rattle.ostore_schema_layout.specs.declared.schema.Inverse.{Inverse}
 use Rattle.ostore_schema_layout.specs.Numbers.{member_at}
+use Rattle.ostore_schema_layout.specs.Lawful.{link_target}
 use Rattle.ostore_graph_model.specs.declared.values.Name.{Name}
 use Rattle.ostore_graph_model.specs.Sets as sets
 use Rattle.ostore_graph_model.specs.Orders.{TypeMember, type_member_cmp, Pair, pair_cmp, name_cmp}
@@ -51,6 +52,13 @@ comes_first member (Some inverse) = is_lt (type_member_cmp member (member_of_inv
 -- the link goes by this member
 abbrev pub is_first : Schema → TypeMember → Bool
 is_first schema member = comes_first member (inverse_at schema member)
+
+-- a link goes by this member: a reference or a set, and the first of its link in the schema's text
+pub record IsLink (schema : Schema) (at : TypeMember) : Type 0 where
+  pub def : MemberDef
+  pub defined : def_of schema at ≡ Some def
+  pub sided : link_target def.kind ≢ None
+  pub first : IsTrue (comes_first at def.inverse)
 
 -- ---- pairs, as they are seen from a member of their link
 

@@ -8,7 +8,7 @@ use Rattle.ostore_graph_model.specs.declared.values.Reply.{Reply}
 use Rattle.ostore_graph_model.specs.declared.commands.Command.{Command}
 use Rattle.ostore_graph_model.specs.Sets as sets
 use Rattle.ostore_graph_model.specs.Orders.{TypeMember, Pair, ObjectMember, PathIndex}
-use Rattle.ostore_graph_model.specs.Graph.{Graph, Dictionary, empty_graph, is_drawn, is_live}
+use Rattle.ostore_graph_model.specs.Graph.{Graph, Dictionary, is_drawn, is_live}
 use Rattle.ostore_graph_model.specs.Links.{is_two_sided, is_ref_member, pair_at}
 use Rattle.ostore_graph_model.specs.Deeds.{Vars}
 use Rattle.ostore_graph_model.specs.Step.{Steps}
@@ -48,7 +48,3 @@ LawOfOnePartner =
     → HasOnePartner schema graph
     → Steps schema update vars graph command reply vars_after graph_after
     → HasOnePartner schema graph_after
-
--- the first holds of the graph of a fresh database
-abbrev pub LawOfEmptyGraph : Type 0
-LawOfEmptyGraph = (schema : Schema) → HoldsLive schema empty_graph

@@ -1,6 +1,6 @@
 -- The graph that a list of pages stands for: each of its seven parts, by what it answers. A pointer stands for
 -- the name of the row that it leads to, live or dead.
-use Rattle.std.specs.Prelude.{◌≡◌, ◌≢◌, ◌↔◌, ◌⊎◌, ℕ, true, IsTrue, List, [], map, Any, take, Option, Some, None}
+use Rattle.std.specs.Prelude.{◌≡◌, ◌≢◌, ◌↔◌, ◌⊎◌, ℕ, true, List, [], map, Any, take, Option, Some, None}
 use Rattle.std.specs.List.{Contains}
 use Rattle.std.specs.Ordering.{nat_cmp}
 use Rattle.std.specs.FinMap as maps
@@ -9,7 +9,6 @@ use Rattle.ostore_base.specs.declared.page.PageImage.{PageImage}
 use Rattle.ostore_base.specs.declared.cell_codes.TheConstants.{LIST_CHUNK, INT_DICTIONARY_CHUNK, TEXT_DICTIONARY_CHUNK, INDEX_DESCRIPTOR}
 use Rattle.ostore_schema_layout.specs.declared.schema.Schema.{Schema}
 use Rattle.ostore_schema_layout.specs.declared.schema.MemberDef.{MemberDef}
-use Rattle.ostore_schema_layout.specs.Lawful.{link_target}
 use Rattle.ostore_graph_model.specs.declared.values.Name.{Name}
 use Rattle.ostore_graph_model.specs.declared.values.Scalar.{Scalar}
 use Rattle.ostore_graph_model.specs.declared.commands.Key.{Key}
@@ -21,7 +20,7 @@ use Rattle.ostore_graph_model.specs.Chunks.{ChunkEntry, IndexDescriptor}
 use Rattle.ostore_graph_model.specs.Records.{CollectionHead, Slot, RowTag, heap_of}
 use Rattle.ostore_graph_model.specs.Heap.{Heap, name_in, name_at, IsObject, HasMember}
 use Rattle.ostore_graph_model.specs.Chains.{chunk_code, ChainLink, IsChain, indexes_of, HasEntries, LeadsTo}
-use Rattle.ostore_graph_model.specs.Links.{def_of, comes_first}
+use Rattle.ostore_graph_model.specs.Links.{IsLink}
 
 -- ---- objects
 
@@ -36,13 +35,6 @@ pub record HasObject (heap : Heap) (values : ℕ → Option (List (Option Scalar
   pub held : values address ≡ Some object.values
 
 -- ---- links
-
--- a link goes by this member: a reference or a set, and the first of its link in the schema's text
-pub record IsLink (schema : Schema) (at : TypeMember) : Type 0 where
-  pub def : MemberDef
-  pub defined : def_of schema at ≡ Some def
-  pub sided : link_target def.kind ≢ None
-  pub first : IsTrue (comes_first at def.inverse)
 
 -- the live object x has, at a member, a pointer to a row that is named y
 pub record Joins (schema : Schema) (heap : Heap) (at : TypeMember) (x y : Name) : Type 0 where

@@ -4,7 +4,8 @@
 ghost use Rattle.ostore_graph_model.specs.LawsOfSteps.{LawOfRefusals, LawOfReads, LawOfReadTransactions};
 ghost use Rattle.ostore_graph_model.specs.LawsOfSteps.{LawOfNewNames, LawOfDrawnNames, LawOfAnswers};
 ghost use Rattle.ostore_graph_model.specs.LawsOfSteps.{LawOfDeletedNames};
-ghost use Rattle.ostore_graph_model.specs.LiveGraphs.{LawOfLiveGraphs, LawOfOnePartner, LawOfEmptyGraph};
+ghost use Rattle.ostore_graph_model.specs.LiveGraphs.{LawOfLiveGraphs, LawOfOnePartner};
+ghost use Rattle.ostore_graph_model.specs.GraphRules.{LawOfGraphs, LawOfFirstGraph};
 ghost use Rattle.ostore_graph_model.specs.Growth.{LawOfGrowth};
 
 /// A command that is refused changes nothing, variables included.
@@ -57,7 +58,13 @@ pub fn reference_keeps_one_partner()
     ensures { LawOfOnePartner }
 {}
 
-/// It holds of the graph of a fresh database.
-pub fn empty_graph_is_live()
-    ensures { LawOfEmptyGraph }
+/// Every command, refused or not, leaves a graph of a lawful schema, where its numbers, texts and names are within
+/// their limits.
+pub fn graph_stays_graph()
+    ensures { LawOfGraphs }
+{}
+
+/// A fresh database has a graph of its schema.
+pub fn first_graph_is_graph()
+    ensures { LawOfFirstGraph }
 {}

@@ -36,13 +36,15 @@ pub use laws_of_pages::{
     text_is_written,
 };
 pub use laws_of_steps::{
-    answers_are_replies, deleted_name_is_dead, drawn_name_stays_drawn, empty_graph_is_live,
-    graph_stays_live, new_name_is_new, read_transaction_changes_nothing, reading_changes_nothing,
-    reference_keeps_one_partner, refusal_changes_nothing, update_grows_no_more_than_script,
+    answers_are_replies, deleted_name_is_dead, drawn_name_stays_drawn, first_graph_is_graph,
+    graph_stays_graph, graph_stays_live, new_name_is_new, read_transaction_changes_nothing,
+    reading_changes_nothing, reference_keeps_one_partner, refusal_changes_nothing,
+    update_grows_no_more_than_script,
 };
 pub use refusal::Refusal;
 pub use values::{Listed, Name, Names, Replies, Reply, Scalar, Value};
 pub use worked::{
-    dangling_reference, deleted_item, displaced_partners, lists_and_dictionaries,
-    order_of_refusals, path_queries, reading_only, set_items,
+    dangling_reference, deleted_item, displaced_partners, indexes_want_inverses, later_read,
+    lists_and_dictionaries, order_of_refusals, path_queries, reading_only, roots_end, serials_end,
+    set_items,
 };
