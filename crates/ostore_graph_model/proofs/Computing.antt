@@ -59,6 +59,9 @@ inserted_nat m k v = maps.entries-insert nat_cmp_total m k v
 pub inserted_text : {X : Type 0} (m : maps.FinMap text_cmp X) (k : List ℕ) (v : X) → maps.entries (maps.insert m k v) ≡ put text_cmp k v (maps.entries m)
 inserted_text m k v = maps.entries-insert nat_list_cmp_total m k v
 
+pub removed_text : {X : Type 0} (m : maps.FinMap text_cmp X) (k : List ℕ) → maps.entries (maps.remove m k) ≡ where_key text_cmp (λ x. not (eq_by_cmp text_cmp k x)) (maps.entries m)
+removed_text m k = entries-remove nat_list_cmp_total (maps.slice_cmp-IsAntisymmetric maps.nat_cmp-IsAntisymmetric) m k
+
 pub inserted_name : {X : Type 0} (m : maps.FinMap name_cmp X) (k : Name) (v : X) → maps.entries (maps.insert m k v) ≡ put name_cmp k v (maps.entries m)
 inserted_name m k v = maps.entries-insert name_cmp-IsTotalOrder m k v
 
@@ -106,6 +109,7 @@ pub ruleset computes = (
   inserted_pair,
   inserted_member,
   inserted_index,
+  removed_text,
   removed_name,
   removed_key,
   removed_pair,
@@ -133,6 +137,9 @@ bare ty values = record { ty = record { 0 = ty }; values = values }
 
 abbrev pub link : Object
 link = bare 1 (Some (scalars.Int (pos 0)) ∷ None ∷ [])
+
+abbrev pub sack : Object
+sack = bare 1 (Some (scalars.Int (pos 0)) ∷ None ∷ [])
 
 abbrev pub box : Object
 box = bare 1 (None ∷ [])

@@ -1,4 +1,4 @@
--- Each transaction of specs/Examples.antt, command by command.
+-- Each transaction of specs/Examples.antt and specs/FullGraphs.antt, command by command.
 pub mod DisplacedPartners
 pub mod DeletedItem
 pub mod SetItems
@@ -7,3 +7,6 @@ pub mod ListsAndDictionaries
 pub mod ReadingOnly
 pub mod OrderOfRefusals
 pub mod PathQueries
+pub mod SerialsEnd
+pub mod RootsEnd
+pub mod IndexesWantInverses

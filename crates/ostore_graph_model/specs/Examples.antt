@@ -18,7 +18,7 @@ use Rattle.ostore_graph_model.specs.declared.commands.Command.TheVariants as lin
 use Rattle.ostore_graph_model.specs.declared.commands.Operand.TheVariants as operands
 use Rattle.ostore_graph_model.specs.declared.commands.Key.TheVariants as keys
 use Rattle.ostore_graph_model.specs.declared.commands.Op.TheVariants as ops
-use Rattle.ostore_graph_model.specs.Graph.{empty_graph}
+use Rattle.ostore_graph_model.specs.Graph.{Graph, empty_graph}
 use Rattle.ostore_graph_model.specs.Transaction.{Answers}
 
 -- a type by its number
@@ -162,11 +162,9 @@ SetItems =
     ∷ Count 0
     ∷ [])
 
--- a one-sided reference to a deleted object stays, and is not followed
-abbrev pub DanglingReference : Type 0
-DanglingReference =
-    AnswersFirst chained true
-    (
+-- commands after which a part's reference leads to a deleted one, and their replies
+abbrev pub dangling_commands : List Command
+dangling_commands =
     line.New (codes "p") (codes "Part") 1
     ∷ line.New (codes "q") (codes "Part") 1
     ∷ line.Set (codes "p") (codes "next") (operands.Var (codes "q"))
@@ -177,8 +175,10 @@ DanglingReference =
     ∷ line.Find (codes "x") (n 1 2)
     ∷ line.Find (codes "y") (n 1 1)
     ∷ line.Root (codes "z") (codes "top")
-    ∷ [])
-    (
+    ∷ []
+
+abbrev pub dangling_replies : List Reply
+dangling_replies =
     Named (n 1 1)
     ∷ Named (n 1 2)
     ∷ Done
@@ -189,7 +189,11 @@ DanglingReference =
     ∷ Refused refusals.NoObject
     ∷ Named (n 1 1)
     ∷ Named (n 1 1)
-    ∷ [])
+    ∷ []
+
+-- a one-sided reference to a deleted object stays, and is not followed
+abbrev pub DanglingReference : Type 0
+DanglingReference = AnswersFirst chained true dangling_commands dangling_replies
 
 -- an index beyond a list and a key that is not bound are refused
 abbrev pub ListsAndDictionaries : Type 0
@@ -218,10 +222,11 @@ ListsAndDictionaries =
     ∷ Count 1
     ∷ [])
 
--- in a read a command that writes is refused before anything else, and binds no variable
+-- in a read a command that writes is refused before anything else, and binds no variable, whatever the graph has
 abbrev pub ReadingOnly : Type 0
 ReadingOnly =
-    AnswersFirst chained false
+    (graph : Graph)
+    → Answers chained false maps.empty graph
     (
     line.New (codes "p") (codes "Part") 1
     ∷ line.Get (codes "p") (codes "id")

@@ -2,6 +2,7 @@
 
 ghost use Rattle.ostore_graph_model.specs.Examples.{DisplacedPartners, DeletedItem, DanglingReference, SetItems};
 ghost use Rattle.ostore_graph_model.specs.Examples.{ListsAndDictionaries, ReadingOnly, OrderOfRefusals, PathQueries};
+ghost use Rattle.ostore_graph_model.specs.FullGraphs.{SerialsEnd, RootsEnd, IndexesWantInverses, LaterRead};
 
 /// A reference that is set parts both objects from whom they were joined with.
 pub fn displaced_partners()
@@ -23,12 +24,17 @@ pub fn dangling_reference()
     ensures { DanglingReference }
 {}
 
+/// A later read finds by a root what refers to a deleted object.
+pub fn later_read()
+    ensures { LaterRead }
+{}
+
 /// An index beyond a list and a key that is not bound are refused.
 pub fn lists_and_dictionaries()
     ensures { ListsAndDictionaries }
 {}
 
-/// In a read a command that writes is refused before anything else, and binds no variable.
+/// In a read a command that writes is refused before anything else, and binds no variable, whatever the graph has.
 pub fn reading_only()
     ensures { ReadingOnly }
 {}
@@ -41,4 +47,19 @@ pub fn order_of_refusals()
 /// A query follows its path through references that change, with an index or without.
 pub fn path_queries()
     ensures { PathQueries }
+{}
+
+/// A segment draws its last serial, and then none; another one draws its first.
+pub fn serials_end()
+    ensures { SerialsEnd }
+{}
+
+/// Where all roots are bound a further one is refused, one of them may be bound anew, and one that goes makes room.
+pub fn roots_end()
+    ensures { RootsEnd }
+{}
+
+/// An index wants inverses: of the set, and of each reference on its path.
+pub fn indexes_want_inverses()
+    ensures { IndexesWantInverses }
 {}

@@ -1,5 +1,5 @@
 -- The commands one by one.
-use Rattle.std.proofs.Common.{◌≡◌, ◌∙◌, refl, ℕ, List, [], ◌∷◌, Option, Some, None, true, false}
+use Rattle.std.proofs.Common.{◌≡◌, ◌∙◌, refl, sym, subst, ℕ, List, [], ◌∷◌, Option, Some, None, true, false}
 use Rattle.std.specs.Prelude.{codes, pos}
 use Rattle.std.specs.FinMap as maps
 use Rattle.ostore_schema_layout.specs.declared.schema.Schema.{Schema}
@@ -19,7 +19,10 @@ use Rattle.ostore_graph_model.specs.Links.{pair_at, joined}
 use Rattle.ostore_graph_model.specs.Deeds.{Stepped}
 use Rattle.ostore_graph_model.specs.Deeds.Objects.{with_new, without_object}
 use Rattle.ostore_graph_model.specs.Step.{step}
-use Rattle.ostore_graph_model.specs.Examples.{boxes, stores, bags, chained, by_code, n, DanglingReference}
+use Rattle.ostore_graph_model.specs.Examples.{boxes, stores, bags, chained, by_code, n, dangling_commands, dangling_replies, DanglingReference}
+use Rattle.ostore_graph_model.specs.FullGraphs.{LaterRead}
+use Rattle.ostore_graph_model.specs.Transaction.{run_from, Answers}
+use Rattle.ostore_graph_model.proofs.StepLaws.{graph_left}
 use Rattle.ostore_graph_model.proofs.Computing.{computes, start, tm, om, link}
 
 abbrev s1 : Stepped
@@ -95,3 +98,29 @@ step10 = simp computes refl
 pub dangling_reference : DanglingReference
 dangling_reference =
     (s1.vars, s1.graph, step1, (s2.vars, s2.graph, step2, (s3.vars, s3.graph, step3, (s4.vars, s4.graph, step4, (s5.vars, s5.graph, step5, (s6.vars, s6.graph, step6, (s7.vars, s7.graph, step7, (s8.vars, s8.graph, step8, (s9.vars, s9.graph, step9, (s10.vars, s10.graph, step10, refl))))))))))
+
+-- ---- a later read
+
+abbrev t1 : Stepped
+t1 = record { reply = Named (n 1 1); vars = maps.insert maps.empty (codes "r") (n 1 1); graph = s10.graph }
+
+abbrev t2 : Stepped
+t2 = record t1 { reply = Value (values.Dead (n 1 2)) }
+
+read1 : step chained false maps.empty s10.graph (line.Root (codes "r") (codes "top")) ≡ t1
+unfolding place_named
+read1 = simp computes refl
+
+read2 : step chained false t1.vars t1.graph (line.Get (codes "r") (codes "next")) ≡ t2
+unfolding place_named
+read2 = simp computes refl
+
+-- the graph that the commands leave
+left : (run_from chained true maps.empty empty_graph dangling_commands).graph ≡ s10.graph
+unfolding dangling_reference
+left = graph_left chained true maps.empty empty_graph dangling_commands dangling_replies dangling_reference
+
+pub later_read : LaterRead
+later_read =
+    subst (λ graph. Answers chained false maps.empty graph (line.Root (codes "r") (codes "top") ∷ line.Get (codes "r") (codes "next") ∷ []) (Named (n 1 1) ∷ Value (values.Dead (n 1 2)) ∷ []))
+    (sym left) (t1.vars, t1.graph, read1, (t2.vars, t2.graph, read2, refl))

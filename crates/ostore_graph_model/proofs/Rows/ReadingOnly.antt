@@ -14,7 +14,7 @@ use Rattle.ostore_graph_model.specs.declared.commands.Operand.TheVariants as ope
 use Rattle.ostore_graph_model.specs.declared.commands.Key.TheVariants as keys
 use Rattle.ostore_graph_model.specs.declared.commands.Op.TheVariants as ops
 use Rattle.ostore_graph_model.specs.Sets as sets
-use Rattle.ostore_graph_model.specs.Graph.{Object, empty_graph}
+use Rattle.ostore_graph_model.specs.Graph.{Graph}
 use Rattle.ostore_graph_model.specs.Links.{pair_at, joined}
 use Rattle.ostore_graph_model.specs.Deeds.{Stepped}
 use Rattle.ostore_graph_model.specs.Deeds.Objects.{with_new, without_object}
@@ -22,25 +22,25 @@ use Rattle.ostore_graph_model.specs.Step.{step}
 use Rattle.ostore_graph_model.specs.Examples.{boxes, stores, bags, chained, by_code, n, ReadingOnly}
 use Rattle.ostore_graph_model.proofs.Computing.{computes, start, tm, om}
 
-abbrev s1 : Stepped
-s1 = record start { reply = Refused refusals.ReadOnly }
+module _ (graph : Graph) where
+  abbrev s1 : Stepped
+  s1 = record { reply = Refused refusals.ReadOnly; vars = maps.empty; graph = graph }
 
-step1 : step chained false start.vars start.graph (line.New (codes "p") (codes "Part") 1) ≡ s1
-step1 = refl
+  step1 : step chained false maps.empty graph (line.New (codes "p") (codes "Part") 1) ≡ s1
+  step1 = refl
 
-abbrev s2 : Stepped
-s2 = record s1 { reply = Refused refusals.NoVariable }
+  abbrev s2 : Stepped
+  s2 = record s1 { reply = Refused refusals.NoVariable }
 
-step2 : step chained false s1.vars s1.graph (line.Get (codes "p") (codes "id")) ≡ s2
-unfolding place_named
-step2 = simp computes refl
+  step2 : step chained false s1.vars s1.graph (line.Get (codes "p") (codes "id")) ≡ s2
+  step2 = simp computes refl
 
-abbrev s3 : Stepped
-s3 = record s2 { reply = Refused refusals.ReadOnly }
+  abbrev s3 : Stepped
+  s3 = record s2 { reply = Refused refusals.ReadOnly }
 
-step3 : step chained false s2.vars s2.graph (line.Set (codes "p") (codes "id") (operands.Var (codes "q"))) ≡ s3
-step3 = refl
+  step3 : step chained false s2.vars s2.graph (line.Set (codes "p") (codes "id") (operands.Var (codes "q"))) ≡ s3
+  step3 = refl
 
 pub reading_only : ReadingOnly
-reading_only =
-    (s1.vars, s1.graph, step1, (s2.vars, s2.graph, step2, (s3.vars, s3.graph, step3, refl)))
+reading_only graph =
+    ((s1 graph).vars, (s1 graph).graph, step1 graph, ((s2 graph).vars, (s2 graph).graph, step2 graph, ((s3 graph).vars, (s3 graph).graph, step3 graph, refl)))
