@@ -10,8 +10,8 @@ ghost use Rattle.ostore_client_cache.specs.Caches.{cached, fresh, surplus, used_
 ghost use Rattle.ostore_client_cache.specs.declared.entries.Hold.TheVariants.{Retained, InUse, Owned};
 
 use crate::entries::{
-    CachedPage, Hold, forget_entry, image_in_use, is_owner, is_used, own_page, retain_entry, set_image, store,
-    use_entry,
+    CachedPage, Hold, forget_entry, image_in_use, is_owner, is_used, own_page, retain_entry,
+    set_image, store, use_entry,
 };
 use lru::LruCache;
 use ostore_base::{OutOfMemory, PageImage, PageNo};

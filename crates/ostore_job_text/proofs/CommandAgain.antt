@@ -173,7 +173,6 @@ query_again line object member path op key e h =
     let s3 = key_again line 4 key [] s2.1 h.2 in
     rw (s0.0, s1.0, s2.0, s3.0) (ended_again line 5 (commands.Query object member path op key) s3.1)
 
-
 -- ---- by the verb
 
 abbrev pub verb_of : List (List ℕ) → List ℕ

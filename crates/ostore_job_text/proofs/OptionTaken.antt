@@ -181,7 +181,7 @@ options_given number pre (setting ∷ post) prs (option ∷ pos) n m apart same 
     let value : number setting ≡ m.0.1 = same setting ∙ found_number pre prs pos setting option m.0 n (pairwise_before (λ one other. one ≢ other) pre setting post apart) in
     let word : option.number ≡ decimal (number setting) = h.0 ∙ ap decimal (sym value) in
     let later = options_given number (pre ++ setting ∷ []) post (prs ++ option ∷ []) pos (name_more pre prs setting option n m.0) m.1 (subst (ArePairwise (λ one other. one ≢ other)) (sym (append_assoc pre (setting ∷ []) post)) apart)
-        (λ s. same s ∙ ap (λ (os : List OptionSaid). number_by os s) (sym (append_assoc prs (option ∷ []) pos))) in
+    (λ s. same s ∙ ap (λ (os : List OptionSaid). number_by os s) (sym (append_assoc prs (option ∷ []) pos))) in
     let bounds : (1 ≤ number setting) × (number setting ≤ setting_most setting) = subst (λ (k : ℕ). (1 ≤ k) × (k ≤ setting_most setting)) (sym value) (h.1, h.2) in
     (two_words m.0.0 word later.0, (bounds, later.1))
 

@@ -8,18 +8,15 @@ ghost use Rattle.ostore_job_text.specs.ParsedJob.{parsed_job};
 /// What a text spells is what it is read as.
 pub fn spelled_is_read()
     ensures { (text : List ℕ) → (job : Job) → SpellsJob text job → parsed_job text ≡ Ok job }
-{
-}
+{}
 
 /// What a text is read as is what it spells.
 pub fn read_is_spelled()
     ensures { (text : List ℕ) → (job : Job) → parsed_job text ≡ Ok job → SpellsJob text job }
-{
-}
+{}
 
 /// A text spells at most one job.
 pub fn one_job_is_spelled()
     ensures { (text : List ℕ) → (one other : Job) →
         SpellsJob text one → SpellsJob text other → one ≡ other }
-{
-}
+{}
