@@ -149,7 +149,8 @@ fn seal_slice(
 )
     requires end { end ≡ record_size count }
     requires inside { end < length bytes.old }
-    ensures pages { pages_of count (drop PAGES_IN_RECORD bytes.new) ≡ pages_of count (drop PAGES_IN_RECORD bytes.old) }
+    ensures pages { pages_of count (drop PAGES_IN_RECORD bytes.new)
+        ≡ pages_of count (drop PAGES_IN_RECORD bytes.old) }
     ensures size { length bytes.new ≡ length bytes.old }
     ensures whole { AreWhole (pages_of count (drop PAGES_IN_RECORD bytes.old)) }
     ensures spelled { take end (drop GATE_BYTES bytes.new) ≡ behind_gate generation number

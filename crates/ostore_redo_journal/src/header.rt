@@ -89,7 +89,8 @@ fn slot_counts(front: &[u8], at: usize, parity: u32) -> bool
 // Whether a slot counts.
 fn has_slot(front: &[u8]) -> bool
     requires { length front.now ≡ PAGE_SIZE }
-    ensures { IsTrue result ↔ (SlotCounts front.now SLOT_A_AT 1 ⊎ SlotCounts front.now SLOT_B_AT 0) }
+    ensures { IsTrue result
+        ↔ (SlotCounts front.now SLOT_A_AT 1 ⊎ SlotCounts front.now SLOT_B_AT 0) }
 {
     slot_counts(front, SLOT_A_AT, 1) || slot_counts(front, SLOT_B_AT, 0)
 }

@@ -39,7 +39,8 @@ enum JobRefused {
 /// The job from a place on, where it is built.
 fn read_built_job(alloc: Global, text: &[u8], start: usize) -> Result<Job, JobRefused>
     ensures read { IfOk result (λ job. ReadsJob start text.now job) }
-    ensures only { IfOk result (λ job. (other : Job) → ReadsJob start text.now other → other ≡ job) }
+    ensures only { IfOk result
+        (λ job. (other : Job) → ReadsJob start text.now other → other ≡ job) }
     ensures refused { result ≡ Err JobRefused.Refused
         → (job : Job) → ReadsJob start text.now job → ⊥ }
 {
