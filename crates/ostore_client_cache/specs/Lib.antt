@@ -1,4 +1,0 @@
-pub mod Entries
-pub mod Caches
-pub mod Releases
-pub mod inside
