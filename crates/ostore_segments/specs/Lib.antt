@@ -8,6 +8,7 @@ pub mod Growth
 pub mod Placing
 pub mod Adding
 pub mod Making
+pub mod Listing
 pub mod SchemaCells
 -- What only ties private code.
 pub mod inside

@@ -1,6 +1,6 @@
 //! Cells added to a page, through a holder of pages.
 
-ghost use Rattle.std.specs.Prelude.{◌≡◌, ◌+◌, ◌++◌, true, Some, IfOk};
+ghost use Rattle.std.specs.Prelude.{◌≡◌, ◌+◌, ◌++◌, true, Some, IfOk, OnOk, IfErr};
 ghost use Rattle.byteorder.specs.Endian.{little_bytes};
 ghost use Rattle.ostore_page_tags.specs.declared.layout.TheConstants.{ROW_BYTES};
 ghost use Rattle.ostore_page_tags.specs.Changes.{IsCellAsked};
@@ -49,6 +49,8 @@ pub fn add<P: Pages>(
     requires room { Stands (P.held pages.old) (λ list. HasRoomOn list (size + ROW_BYTES) page.0) }
     ensures lists { IfOk result (λ offset. Becomes (P.held pages.old) (P.held pages.new)
         (λ old new. (offset ≡ (header_at old page.0).end) × Adds old new page.0 size code serial)) }
+    ensures passes { OnOk result (P.passes pages.old pages.new) }
+    ensures fails { IfErr result (λ fault. P.fails pages.old fault pages.new) }
     ensures told { P.told pages.new ≡ P.told pages.old }
 {
     let header = header_at(pages, page)?;

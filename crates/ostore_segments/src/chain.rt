@@ -1,9 +1,10 @@
 //! The pages of a segment.
 
-ghost use Rattle.std.specs.Prelude.{◌≡◌, IfOk, map};
+ghost use Rattle.std.specs.Prelude.{◌≡◌, map, IfOk, OnOk, IfErr, ⊤};
 ghost use Rattle.ostore_page_tags.specs.PageChains.{IsSegment};
 ghost use Rattle.ostore_page_tags.specs.Allocated.{IsAllocated, HasChain};
 ghost use Rattle.ostore_segments.specs.Holdings.{Stands, Becomes, Sees};
+ghost use Rattle.ostore_segments.specs.Listing.{MatchPagesOfFault};
 
 use crate::fields::{first_of, header_at};
 use crate::pages::Pages;
@@ -19,7 +20,8 @@ pub enum PagesOfFault<F> {
     OutOfMemory(OutOfMemory),
 }
 
-/// The pages of a segment, in the order of its chain.
+/// The pages of a segment, in the order of its chain. Where memory is refused, each call of the holder answered
+/// Ok, and nothing has changed.
 pub fn pages_of<P: Pages>(
     alloc: Global,
     pages: &mut P,
@@ -29,6 +31,11 @@ pub fn pages_of<P: Pages>(
     requires allocated { Stands (P.held pages.old) IsAllocated }
     ensures lists { IfOk result (λ found. Becomes (P.held pages.old) (P.held pages.new)
         (Sees (λ list. HasChain list segment (map (λ page. page.0) found)))) }
+    ensures passes { OnOk result (P.passes pages.old pages.new) }
+    ensures fails { IfErr result (λ why. MatchPagesOfFault why
+        (λ fault. P.fails pages.old fault pages.new) (P.passes pages.old pages.new)) }
+    ensures memory { IfErr result (λ why. MatchPagesOfFault why (λ _. ⊤)
+        (Becomes (P.held pages.old) (P.held pages.new) (λ old new. new ≡ old))) }
     ensures told { P.told pages.new ≡ P.told pages.old }
 {
     let mut found = PageNos::new(alloc);

@@ -1,6 +1,6 @@
 //! Fields of headers, read and written through a holder of pages.
 
-ghost use Rattle.std.specs.Prelude.{◌≡◌, ◌+◌, ◌*◌, ◌-◌, true, OnOk, IfOk};
+ghost use Rattle.std.specs.Prelude.{◌≡◌, ◌+◌, ◌*◌, ◌-◌, true, OnOk, IfOk, IfErr};
 ghost use Rattle.byteorder.specs.Endian.{little_bytes};
 ghost use Rattle.ostore_page_tags.specs.PageLists.{header_at, first_of, with_bytes};
 ghost use Rattle.ostore_page_tags.specs.PageChains.{IsSegment};
@@ -30,6 +30,8 @@ pub(crate) fn header_at<P: Pages>(pages: &mut P, page: PageNo) -> Result<PageHea
     requires { Stands (P.held pages.old) (λ list. HasHeaderAt list page.0) }
     ensures seen { IfOk result (λ header. Becomes (P.held pages.old) (P.held pages.new)
         (Sees (λ list. header_at list page.0 ≡ header))) }
+    ensures passes { OnOk result (P.passes pages.old pages.new) }
+    ensures fails { IfErr result (λ fault. P.fails pages.old fault pages.new) }
     ensures told { P.told pages.new ≡ P.told pages.old }
 {
     pages.enter(page)?;
@@ -42,6 +44,8 @@ pub(crate) fn first_of<P: Pages>(pages: &mut P, segment: u8) -> Result<u32, P::F
     requires allocated { Stands (P.held pages.old) IsAllocated }
     ensures seen { IfOk result (λ first. Becomes (P.held pages.old) (P.held pages.new)
         (Sees (λ list. first_of list segment ≡ first))) }
+    ensures passes { OnOk result (P.passes pages.old pages.new) }
+    ensures fails { IfErr result (λ fault. P.fails pages.old fault pages.new) }
     ensures told { P.told pages.new ≡ P.told pages.old }
 {
     pages.enter(FRONT)?;
@@ -60,6 +64,8 @@ pub(crate) fn put_number<P: Pages>(
         (CanPut (P.told pages.old) page.0 at (little_bytes 4 value)) }
     ensures lists { OnOk result (Becomes (P.held pages.old) (P.held pages.new)
         (λ old new. new ≡ with_bytes old page.0 at (little_bytes 4 value))) }
+    ensures passes { OnOk result (P.passes pages.old pages.new) }
+    ensures fails { IfErr result (λ fault. P.fails pages.old fault pages.new) }
     ensures told { P.told pages.new ≡ P.told pages.old }
 {
     pages.edit(page, at, &value.to_le_bytes())

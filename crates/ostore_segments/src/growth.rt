@@ -1,6 +1,6 @@
 //! A page from the free list for a segment.
 
-ghost use Rattle.std.specs.Prelude.{◌≡◌, ◌≢◌, [], true, OnOk, IfOk, MatchOption};
+ghost use Rattle.std.specs.Prelude.{◌≡◌, ◌≢◌, [], true, OnOk, IfOk, MatchOption, IfErr};
 ghost use Rattle.ostore_page_tags.specs.PageChains.{IsSegment};
 ghost use Rattle.ostore_page_tags.specs.Allocated.{IsAllocated, HasFree};
 ghost use Rattle.ostore_segments.specs.Holdings.{Stands, Becomes};
@@ -22,6 +22,8 @@ fn take_free<P: Pages>(pages: &mut P, segment: u8, page: PageNo) -> Result<(), P
     requires stands { Stands (P.held pages.old) (λ list. BeginsWith list page.0) }
     ensures lists { OnOk result (Becomes (P.held pages.old) (P.held pages.new)
         (λ old new. Takes old new segment page.0)) }
+    ensures passes { OnOk result (P.passes pages.old pages.new) }
+    ensures fails { IfErr result (λ fault. P.fails pages.old fault pages.new) }
     ensures told { P.told pages.new ≡ P.told pages.old }
 {
     let rest = header_at(pages, page)?.next;
@@ -37,6 +39,8 @@ fn begin_chain<P: Pages>(pages: &mut P, segment: u8, page: PageNo) -> Result<(),
     requires stands { Stands (P.held pages.old) (λ list. BeginsBeside list segment page.0 0) }
     ensures lists { OnOk result (Becomes (P.held pages.old) (P.held pages.new)
         (λ old new. Grows old new segment page.0)) }
+    ensures passes { OnOk result (P.passes pages.old pages.new) }
+    ensures fails { IfErr result (λ fault. P.fails pages.old fault pages.new) }
     ensures told { P.told pages.new ≡ P.told pages.old }
 {
     take_free(pages, segment, page)?;
@@ -57,6 +61,8 @@ fn extend_chain<P: Pages>(
     requires stands { Stands (P.held pages.old) (λ list. BeginsBeside list segment page.0 first.0) }
     ensures lists { OnOk result (Becomes (P.held pages.old) (P.held pages.new)
         (λ old new. Grows old new segment page.0)) }
+    ensures passes { OnOk result (P.passes pages.old pages.new) }
+    ensures fails { IfErr result (λ fault. P.fails pages.old fault pages.new) }
     ensures told { P.told pages.new ≡ P.told pages.old }
 {
     let last = PageNo(header_at(pages, first)?.last_page);
@@ -74,6 +80,8 @@ pub fn grow<P: Pages>(pages: &mut P, segment: u8) -> Result<Option<PageNo>, P::F
     ensures lists { IfOk result (λ grown. Becomes (P.held pages.old) (P.held pages.new)
         (λ old new. MatchOption grown ((new ≡ old) × HasFree old [])
         (λ page. Grows old new segment page.0))) }
+    ensures passes { OnOk result (P.passes pages.old pages.new) }
+    ensures fails { IfErr result (λ fault. P.fails pages.old fault pages.new) }
     ensures told { P.told pages.new ≡ P.told pages.old }
 {
     let head = header_at(pages, FRONT)?.next;

@@ -23,4 +23,6 @@ pub use schema_pages::{SchemaPages, root_row, size_told};
 pub use serials::{draw_serial, serials_spent};
 
 #[cfg(test)]
+mod refusals;
+#[cfg(test)]
 mod tests;

@@ -1,6 +1,6 @@
 //! A new object's cell, over any holder of pages.
 
-ghost use Rattle.std.specs.Prelude.{◌≡◌, ◌+◌, true, Some, IfOk, MatchResult, ⊤};
+ghost use Rattle.std.specs.Prelude.{◌≡◌, ◌+◌, true, Some, IfOk, MatchResult, ⊤, OnOk, IfErr};
 ghost use Rattle.ostore_page_tags.specs.declared.layout.TheConstants.{ROW_BYTES};
 ghost use Rattle.ostore_page_tags.specs.PageChains.{IsSegment};
 ghost use Rattle.ostore_page_tags.specs.Allocated.{IsAllocated};
@@ -45,6 +45,8 @@ fn make_on<P: Pages>(
     ensures page { IfOk result (λ made. made.page ≡ page) }
     ensures lists { IfOk result (λ made. Becomes (P.held pages.old) (P.held pages.new)
         (λ old new. DrawsAndAdds old new segment page.0 size code made.serial made.offset)) }
+    ensures passes { OnOk result (P.passes pages.old pages.new) }
+    ensures fails { IfErr result (λ fault. P.fails pages.old fault pages.new) }
     ensures told { P.told pages.new ≡ P.told pages.old }
 {
     let serial = draw_serial(pages, segment)?;
@@ -77,6 +79,8 @@ pub fn make<P: Pages>(
         (λ no. FindsNone old new segment (size + ROW_BYTES)))) }
     ensures why { IfOk result (λ made. MatchResult made (λ _. ⊤)
         (λ no. (no.segment ≡ segment) × (no.need ≡ size + ROW_BYTES))) }
+    ensures passes { OnOk result (P.passes pages.old pages.new) }
+    ensures fails { IfErr result (λ fault. P.fails pages.old fault pages.new) }
     ensures told { P.told pages.new ≡ P.told pages.old }
 {
     match place(pages, segment, size)? {

@@ -1,6 +1,6 @@
 //! The pages that segments stand on.
 
-ghost use Rattle.std.specs.Prelude.{◌≡◌, ◌<◌, true, OnOk, IsSome, length};
+ghost use Rattle.std.specs.Prelude.{◌≡◌, ◌<◌, true, OnOk, IfErr, IsSome, length};
 ghost use Rattle.ostore_page_tags.specs.Limits.{most_roots};
 ghost use Rattle.ostore_page_tags.specs.PageLists.{with_bytes};
 ghost use Rattle.ostore_segments.specs.Holdings.{PagesTold, PagesHeld, Stands, Becomes};
@@ -15,7 +15,9 @@ use ostore_page_tags::layout::ROOTS_PAGE;
 /// and what it answers holds of each that is left. All lists have one length.
 ///
 /// Pointers that the holder shows and takes may be resident: `home` says for which stored one each stands.
-/// After a fault nothing is told of the lists.
+/// After a fault nothing is told of the lists. What holds then, as that a count of faults rose, each holder says
+/// by `fails`, and by `passes` what holds after calls that were Ok. Code for any holder knows only the laws of
+/// these two, so a fault that it answers is one that the holder answered, after calls that were Ok.
 pub trait Pages {
     /// Why a page can't be had.
     type Fault;
@@ -27,12 +29,21 @@ pub trait Pages {
     /// The lists for which it may stand, the pages in view, and the homes of resident pointers.
     ghost held: { Self → PagesHeld };
 
+    /// What holds from one moment to a later one where each call between them answered Ok.
+    ghost passes: { Self → Self → Type 0 };
+
+    /// What holds from one moment to a later one where the last call between them answered this fault, and each
+    /// one before it Ok.
+    ghost fails: { Self → Self.Fault → Self → Type 0 };
+
     /// Brings a page into view, where it stays.
     fn enter(&mut self, page: PageNo) -> Result<(), Self::Fault>
         requires { Stands (held self.old) (λ list. page.0 < length list) }
         ensures lists { OnOk result (Becomes (held self.old) (held self.new)
             (λ old new. new ≡ old)) }
         ensures view { OnOk result ((held self.new).in_view page.0) }
+        ensures passes { OnOk result (passes self.old self.new) }
+        ensures fails { IfErr result (λ fault. fails self.old fault self.new) }
         ensures told { told self.new ≡ told self.old };
 
     /// The image of a page in view. It is the page of each list, but for its pointers, which are resident.
@@ -47,6 +58,8 @@ pub trait Pages {
         requires puts { Stands (held self.old) (CanPut (told self.old) page.0 at bytes.now) }
         ensures lists { OnOk result (Becomes (held self.old) (held self.new)
             (λ old new. new ≡ with_bytes old page.0 at bytes.now)) }
+        ensures passes { OnOk result (passes self.old self.new) }
+        ensures fails { IfErr result (λ fault. fails self.old fault self.new) }
         ensures told { told self.new ≡ told self.old };
 
     /// Replaces a pointer of a live cell by a resident one that leads to a page, or is 0.
@@ -57,6 +70,8 @@ pub trait Pages {
         ensures lists { let stored = stored_or_null ((held self.old).home pointer) in
             OnOk result (Becomes (held self.old) (held self.new)
             (λ old new. new ≡ with_pointer_at stored page.0 at old)) }
+        ensures passes { OnOk result (passes self.old self.new) }
+        ensures fails { IfErr result (λ fault. fails self.old fault self.new) }
         ensures told { told self.new ≡ told self.old };
 
     /// Replaces row `i` of the page of roots by one with a name of at most 31 bytes and a resident pointer
@@ -70,5 +85,17 @@ pub trait Pages {
         ensures lists { let stored = stored_or_null ((held self.old).home pointer) in
             OnOk result (Becomes (held self.old) (held self.new)
             (λ old new. new ≡ with_root i name.now stored old)) }
+        ensures passes { OnOk result (passes self.old self.new) }
+        ensures fails { IfErr result (λ fault. fails self.old fault self.new) }
         ensures told { told self.new ≡ told self.old };
+
+    /// From a moment to itself there is no call.
+    ghost passes_at_once: { (a : Self) → passes a a };
+
+    /// Calls that were Ok, and more of them.
+    ghost passes_on: { (a b c : Self) → passes a b → passes b c → passes a c };
+
+    /// Calls that were Ok, and then some of which the last one failed.
+    ghost fails_later: { (a b c : Self) (fault : Self.Fault)
+        → passes a b → fails b fault c → fails a fault c };
 }

@@ -1,6 +1,6 @@
 //! Which page of a segment a cell goes to.
 
-ghost use Rattle.std.specs.Prelude.{◌≡◌, ◌<◌, ◌≤◌, ◌+◌, ◌-◌, ◌*◌, ◌↔◌, true, IsTrue, IfOk, MatchOption, MatchResult, ⊤};
+ghost use Rattle.std.specs.Prelude.{◌≡◌, ◌<◌, ◌≤◌, ◌+◌, ◌-◌, ◌*◌, ◌↔◌, true, IsTrue, IfOk, MatchOption, MatchResult, ⊤, OnOk, IfErr};
 ghost use Rattle.ostore_base.specs.declared.page.TheConstants.{PAGE_SIZE};
 ghost use Rattle.ostore_page_tags.specs.declared.layout.TheConstants.{ROW_BYTES};
 ghost use Rattle.ostore_page_tags.specs.Limits.{largest_cell};
@@ -49,6 +49,8 @@ fn last_with_room<P: Pages>(
     ensures lists { IfOk result (λ found. Becomes (P.held pages.old) (P.held pages.new)
         (Sees (λ list. MatchOption found (EndsFull list segment need)
         (λ page. EndsWithRoom list segment need page.0)))) }
+    ensures passes { OnOk result (P.passes pages.old pages.new) }
+    ensures fails { IfErr result (λ fault. P.fails pages.old fault pages.new) }
     ensures told { P.told pages.new ≡ P.told pages.old }
 {
     let first = first_of(pages, segment)?;
@@ -75,6 +77,8 @@ fn first_with_room<P: Pages>(
     ensures lists { IfOk result (λ found. Becomes (P.held pages.old) (P.held pages.new)
         (Sees (λ list. MatchOption found (LacksRoomAll list segment need)
         (λ page. IsFirstWithRoom list segment need page.0)))) }
+    ensures passes { OnOk result (P.passes pages.old pages.new) }
+    ensures fails { IfErr result (λ fault. P.fails pages.old fault pages.new) }
     ensures told { P.told pages.new ≡ P.told pages.old }
 {
     let mut page = first_of(pages, segment)?;
@@ -109,6 +113,8 @@ pub fn place<P: Pages>(
         (λ no. FindsNone old new segment (size + ROW_BYTES)))) }
     ensures why { IfOk result (λ placed. MatchResult placed (λ _. ⊤)
         (λ no. (no.segment ≡ segment) × (no.need ≡ size + ROW_BYTES))) }
+    ensures passes { OnOk result (P.passes pages.old pages.new) }
+    ensures fails { IfErr result (λ fault. P.fails pages.old fault pages.new) }
     ensures told { P.told pages.new ≡ P.told pages.old }
 {
     let need = size + ROW_BYTES;

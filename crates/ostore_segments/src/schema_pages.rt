@@ -75,7 +75,7 @@ fn put_bytes(pages: &mut PageList, page: PageNo, at: u16, bytes: &[u8])
 }
 
 impl<'a> Pages for SchemaPages<'a> {
-    ghost use Rattle.std.specs.Prelude.{[], true};
+    ghost use Rattle.std.specs.Prelude.{[], true, ⊤};
     ghost use Rattle.ostore_schema_layout.specs.Cells.{pointers_of};
     ghost use Rattle.ostore_segments.specs.Holdings.{alone};
     ghost use Rattle.ostore_segments.specs.SchemaCells.{told_of};
@@ -85,6 +85,10 @@ impl<'a> Pages for SchemaPages<'a> {
     ghost told = { λ it. told_of it.schema.now };
 
     ghost held = { λ it. alone it.pages };
+
+    ghost passes = { λ earlier later. ⊤ };
+
+    ghost fails = { λ earlier fault later. ⊥ };
 
     fn enter(&mut self, _page: PageNo) -> Result<(), Infallible> {
         Ok(())
@@ -114,4 +118,10 @@ impl<'a> Pages for SchemaPages<'a> {
         );
         Ok(())
     }
+
+    ghost passes_at_once = { λ a. tt };
+
+    ghost passes_on = { λ a b c first second. tt };
+
+    ghost fails_later = { λ a b c fault passed failed. failed };
 }

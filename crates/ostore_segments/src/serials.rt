@@ -1,6 +1,6 @@
 //! The serials of a segment.
 
-ghost use Rattle.std.specs.Prelude.{◌≡◌, ◌↔◌, true, IsTrue, IfOk};
+ghost use Rattle.std.specs.Prelude.{◌≡◌, ◌↔◌, true, IsTrue, IfOk, OnOk, IfErr};
 ghost use Rattle.ostore_page_tags.specs.PageChains.{IsSegment};
 ghost use Rattle.ostore_page_tags.specs.Allocated.{IsAllocated};
 ghost use Rattle.ostore_segments.specs.Holdings.{Stands, Becomes, Sees};
@@ -17,6 +17,8 @@ pub fn serials_spent<P: Pages>(pages: &mut P, segment: u8) -> Result<bool, P::Fa
     requires allocated { Stands (P.held pages.old) IsAllocated }
     ensures lists { IfOk result (λ spent. Becomes (P.held pages.old) (P.held pages.new)
         (Sees (λ list. IsTrue spent ↔ AreSpent list segment))) }
+    ensures passes { OnOk result (P.passes pages.old pages.new) }
+    ensures fails { IfErr result (λ fault. P.fails pages.old fault pages.new) }
     ensures told { P.told pages.new ≡ P.told pages.old }
 {
     let first = first_of(pages, segment)?;
@@ -35,6 +37,8 @@ pub fn draw_serial<P: Pages>(pages: &mut P, segment: u8) -> Result<u32, P::Fault
     requires left { Stands (P.held pages.old) (λ list. AreLeft list segment) }
     ensures lists { IfOk result (λ serial. Becomes (P.held pages.old) (P.held pages.new)
         (λ old new. Draws old new segment serial)) }
+    ensures passes { OnOk result (P.passes pages.old pages.new) }
+    ensures fails { IfErr result (λ fault. P.fails pages.old fault pages.new) }
     ensures told { P.told pages.new ≡ P.told pages.old }
 {
     let first = PageNo(first_of(pages, segment)?);

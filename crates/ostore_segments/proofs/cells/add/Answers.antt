@@ -1,4 +1,4 @@
-use Rattle.std.proofs.Common.{◌≡◌, ℕ, ◌+◌, ◌-◌, ◌*◌, List, ap, sym, subst, arith, ◌∙◌}
+use Rattle.std.proofs.Common.{rules, ◌≡◌, ℕ, ◌+◌, ◌-◌, ◌*◌, List, ap, sym, subst, arith, ◌∙◌}
 use Rattle.ostore_page_tags.specs.PageLists.{header_at, with_bytes}
 use Rattle.ostore_segments.specs.Holdings.{PagesTold}
 use Rattle.ostore_segments.specs.Edits.{CanPut}
@@ -58,3 +58,11 @@ returns-clause-lists g c =
     (add_adds c.args.page.0 c.args.size c.args.code c.args.serial c.in_ok-header.header old (can_add _ _ _ _ _ old c.requires.asked (omega arith) (omega arith) known seen)))
     (Becomes-edit (Becomes-weaker (λ old new there written. written ∙ ap (with_bytes old c.args.page.0 (4096 - 8 * (c.in_ok-header.header.rows + 1))) c.row_bytes.ensures) c.in_ok-edit.ensures.lists)
     (Becomes-weaker (λ old new there written. written ∙ ap (with_bytes old c.args.page.0 2) c.counts.ensures) c.in_ok-edit-2.ensures.lists))
+
+pub returns-in_err-edit-2-clause-fails : goal.returns-in_err-edit-2-clause-fails
+returns-in_err-edit-2-clause-fails g c =
+    let failed = g.met.P.Pages.fails_later _ _ _ _ (g.met.P.Pages.passes_on _ _ _ c.in_ok-header.ensures.passes c.in_ok-edit.ensures.passes) c.in_err-edit-2.ensures.fails in
+    search rules
+
+pub returns-clause-passes : goal.returns-clause-passes
+returns-clause-passes g c = g.met.P.Pages.passes_on _ _ _ (g.met.P.Pages.passes_on _ _ _ c.in_ok-header.ensures.passes c.in_ok-edit.ensures.passes) c.in_ok-edit-2.ensures.passes

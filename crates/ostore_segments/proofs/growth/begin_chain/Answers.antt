@@ -1,4 +1,5 @@
-use Rattle.std.proofs.lemmas.Result.{on_ok_weaker}
+use Rattle.std.proofs.Common.{rules}
+use Rattle.std.proofs.lemmas.Result.{on_ok_weaker, IfErr-weaker}
 use Rattle.ostore_segments.proofs.ListSteps.{Stands-weaker, Stands-after, Becomes-after, Becomes-edit, Becomes-stands}
 use Rattle.ostore_segments.proofs.GrowLaws.{begin_edit, begin_edit_last, begin_grows}
 use Rattle.ostore_segments.proofs.growth.begin_chain.Goals as goal
@@ -25,3 +26,16 @@ returns-clause-lists g c =
     (record { begins = known; owned = c.requires.segment; place_is = c.first_place.ensures }) taken)
     c.in_ok-take_free.ensures.lists (Becomes-edit c.in_ok-put_number.ensures.lists last))
     c.put_number-2.ensures.lists
+
+pub returns-in_err-put_number-clause-fails : goal.returns-in_err-put_number-clause-fails
+returns-in_err-put_number-clause-fails g c =
+    let failed = g.met.P.Pages.fails_later _ _ _ _ c.in_ok-take_free.ensures.passes c.in_err-put_number.ensures.fails in
+    search rules
+
+pub returns-clause-passes : goal.returns-clause-passes
+returns-clause-passes g c =
+    on_ok_weaker c.put_number-2.result (λ last. g.met.P.Pages.passes_on _ _ _ (g.met.P.Pages.passes_on _ _ _ c.in_ok-take_free.ensures.passes c.in_ok-put_number.ensures.passes) last) c.put_number-2.ensures.passes
+
+pub returns-clause-fails : goal.returns-clause-fails
+returns-clause-fails g c =
+    IfErr-weaker c.put_number-2.result _ _ (λ fault failed. g.met.P.Pages.fails_later _ _ _ fault (g.met.P.Pages.passes_on _ _ _ c.in_ok-take_free.ensures.passes c.in_ok-put_number.ensures.passes) failed) c.put_number-2.ensures.fails

@@ -1,4 +1,5 @@
-use Rattle.std.proofs.lemmas.Result.{on_ok_weaker}
+use Rattle.std.proofs.Common.{rules}
+use Rattle.std.proofs.lemmas.Result.{on_ok_weaker, IfErr-weaker}
 use Rattle.ostore_segments.proofs.ListSteps.{Stands-seen, Stands-weaker, Stands-after, Becomes-after, Becomes-edit, Becomes-stands, Becomes-seen}
 use Rattle.ostore_segments.proofs.GrowLaws.{can_extend, beside_headed, extend_edit, extend_edit_last, extend_grows}
 use Rattle.ostore_segments.proofs.growth.extend_chain.Goals as goal
@@ -28,3 +29,21 @@ returns-clause-lists g c =
     (λ old middle known taken. extend_grows c.args.segment c.args.page.0 c.args.first.0 c.in_ok-header_at.field-0.last_page old middle (can_extend _ _ _ old c.in_ok-header_at.field-0 c.requires.segment c.requires.some known.0 known.1) taken)
     c.in_ok-take_free.ensures.lists (Becomes-edit c.in_ok-put_number.ensures.lists last)))
     c.put_number-2.ensures.lists
+
+pub returns-in_err-take_free-clause-fails : goal.returns-in_err-take_free-clause-fails
+returns-in_err-take_free-clause-fails g c =
+    let failed = g.met.P.Pages.fails_later _ _ _ _ c.in_ok-header_at.ensures.passes c.in_err-take_free.ensures.fails in
+    search rules
+
+pub returns-in_err-put_number-clause-fails : goal.returns-in_err-put_number-clause-fails
+returns-in_err-put_number-clause-fails g c =
+    let failed = g.met.P.Pages.fails_later _ _ _ _ (g.met.P.Pages.passes_on _ _ _ c.in_ok-header_at.ensures.passes c.in_ok-take_free.ensures.passes) c.in_err-put_number.ensures.fails in
+    search rules
+
+pub returns-clause-passes : goal.returns-clause-passes
+returns-clause-passes g c =
+    on_ok_weaker c.put_number-2.result (λ last. g.met.P.Pages.passes_on _ _ _ (g.met.P.Pages.passes_on _ _ _ (g.met.P.Pages.passes_on _ _ _ c.in_ok-header_at.ensures.passes c.in_ok-take_free.ensures.passes) c.in_ok-put_number.ensures.passes) last) c.put_number-2.ensures.passes
+
+pub returns-clause-fails : goal.returns-clause-fails
+returns-clause-fails g c =
+    IfErr-weaker c.put_number-2.result _ _ (λ fault failed. g.met.P.Pages.fails_later _ _ _ fault (g.met.P.Pages.passes_on _ _ _ (g.met.P.Pages.passes_on _ _ _ c.in_ok-header_at.ensures.passes c.in_ok-take_free.ensures.passes) c.in_ok-put_number.ensures.passes) failed) c.put_number-2.ensures.fails

@@ -1,4 +1,4 @@
-use Rattle.std.proofs.Common.{◌∙◌, ap}
+use Rattle.std.proofs.Common.{rules, ◌∙◌, ap}
 use Rattle.ostore_page_tags.specs.declared.page_header.PageHeader.{PageHeader}
 use Rattle.ostore_segments.proofs.ListSteps.{Stands-seen, Stands-weaker, Becomes-look, Becomes-changed, Becomes-shows}
 use Rattle.ostore_segments.proofs.AllocatedLaws.{front_headed}
@@ -32,3 +32,14 @@ extend_chain-requires-clause-stands g c =
 pub returns-clause-lists : goal.returns-clause-lists
 returns-clause-lists g c =
     Becomes-changed c.requires.allocated (Becomes-look c.in_ok-head.ensures.seen c.in_ok-first.ensures.seen) (λ old new known seen grown. grown) c.in_ok-extend_chain.ensures.lists
+
+pub returns-in_err-first-clause-fails : goal.returns-in_err-first-clause-fails
+returns-in_err-first-clause-fails g c =
+    let failed = g.met.P.Pages.fails_later _ _ _ _ c.in_ok-head.ensures.passes c.in_err-first.ensures.fails in
+    search rules
+
+pub returns-then-first-eq0-clause-passes : goal.returns-then-first-eq0-clause-passes
+returns-then-first-eq0-clause-passes g c = g.met.P.Pages.passes_on _ _ _ (g.met.P.Pages.passes_on _ _ _ c.in_ok-head.ensures.passes c.in_ok-first.ensures.passes) c.in_ok-begin_chain.ensures.passes
+
+pub returns-clause-passes : goal.returns-clause-passes
+returns-clause-passes g c = g.met.P.Pages.passes_on _ _ _ (g.met.P.Pages.passes_on _ _ _ c.in_ok-head.ensures.passes c.in_ok-first.ensures.passes) c.in_ok-extend_chain.ensures.passes

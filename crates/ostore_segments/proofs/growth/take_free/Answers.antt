@@ -1,5 +1,5 @@
-use Rattle.std.proofs.Common.{List, sym, subst, arith}
-use Rattle.std.proofs.lemmas.Result.{on_ok_weaker}
+use Rattle.std.proofs.Common.{rules, List, sym, subst, arith}
+use Rattle.std.proofs.lemmas.Result.{on_ok_weaker, IfErr-weaker}
 use Rattle.ostore_base.specs.declared.page.PageImage.{PageImage}
 use Rattle.ostore_segments.specs.inside.Fields.{Takes}
 use Rattle.ostore_segments.proofs.ListSteps.{Stands-seen, Stands-weaker, Stands-edited, Becomes-edit, Becomes-changed}
@@ -35,3 +35,21 @@ returns-clause-lists g c =
     (takes c.args.segment c.args.page.0 c.in_ok-rest.field-0.next old (can_take _ _ c.in_ok-rest.field-0 old c.requires.segment (omega arith) known seen)))
     (Becomes-edit (Becomes-edit c.in_ok-put_number.ensures.lists c.in_ok-edit.ensures.lists) last))
     c.put_number-2.ensures.lists
+
+pub returns-in_err-put_number-clause-fails : goal.returns-in_err-put_number-clause-fails
+returns-in_err-put_number-clause-fails g c =
+    let failed = g.met.P.Pages.fails_later _ _ _ _ c.in_ok-rest.ensures.passes c.in_err-put_number.ensures.fails in
+    search rules
+
+pub returns-in_err-edit-clause-fails : goal.returns-in_err-edit-clause-fails
+returns-in_err-edit-clause-fails g c =
+    let failed = g.met.P.Pages.fails_later _ _ _ _ (g.met.P.Pages.passes_on _ _ _ c.in_ok-rest.ensures.passes c.in_ok-put_number.ensures.passes) c.in_err-edit.ensures.fails in
+    search rules
+
+pub returns-clause-passes : goal.returns-clause-passes
+returns-clause-passes g c =
+    on_ok_weaker c.put_number-2.result (λ last. g.met.P.Pages.passes_on _ _ _ (g.met.P.Pages.passes_on _ _ _ (g.met.P.Pages.passes_on _ _ _ c.in_ok-rest.ensures.passes c.in_ok-put_number.ensures.passes) c.in_ok-edit.ensures.passes) last) c.put_number-2.ensures.passes
+
+pub returns-clause-fails : goal.returns-clause-fails
+returns-clause-fails g c =
+    IfErr-weaker c.put_number-2.result _ _ (λ fault failed. g.met.P.Pages.fails_later _ _ _ fault (g.met.P.Pages.passes_on _ _ _ (g.met.P.Pages.passes_on _ _ _ c.in_ok-rest.ensures.passes c.in_ok-put_number.ensures.passes) c.in_ok-edit.ensures.passes) failed) c.put_number-2.ensures.fails

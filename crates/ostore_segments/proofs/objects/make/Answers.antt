@@ -1,4 +1,4 @@
-use Rattle.std.proofs.Common.{ap, Ok, Err, arith, ◌∙◌}
+use Rattle.std.proofs.Common.{rules, ap, Ok, Err, arith, ◌∙◌}
 use Rattle.ostore_base.specs.declared.numbers.PageNo.{PageNo}
 use Rattle.ostore_segments.specs.Holdings.{PagesTold}
 use Rattle.ostore_segments.proofs.ListSteps.{Stands-both, Becomes-stands, Becomes-then, Becomes-weaker}
@@ -27,3 +27,8 @@ returns-in_ok-make_on-in-Ok-clause-lists g c =
 
 pub returns-in-Err-clause-lists : goal.returns-in-Err-clause-lists
 returns-in-Err-clause-lists g c = open_placed c.args.segment _ c.in_ok-page.field-0 (Err c.in-Err.no) c.in-Err.is c.in_ok-page.ensures.lists
+
+pub returns-in_err-make_on-in-Ok-clause-fails : goal.returns-in_err-make_on-in-Ok-clause-fails
+returns-in_err-make_on-in-Ok-clause-fails g c =
+    let failed = g.met.P.Pages.fails_later _ _ _ _ c.in_ok-page.ensures.passes c.in_err-make_on-in-Ok.ensures.fails in
+    search rules

@@ -1,8 +1,13 @@
-use Rattle.std.proofs.Common.{◌∙◌, ap}
+use Rattle.std.proofs.Common.{◌≡◌, Result, Ok, Err, IsErrAnd, IfErr, ◌∙◌, ap, subst, sym}
 use Rattle.ostore_segments.specs.Holdings.{PagesTold}
 use Rattle.ostore_segments.proofs.ListSteps.{Stands-weaker, Becomes-stands, Becomes-then, Becomes-weaker}
 use Rattle.ostore_segments.proofs.MakeLaws.{drawn_room, draws_and_adds, object_asked, some_serial}
 use Rattle.ostore_segments.proofs.objects.make_on.Goals as goal
+
+-- a fault that is handed on
+handed_on : {T E : Type 0} (Q : E → Type 0) (r : Result T E) (fault : E) → IsErrAnd r (λ it. it ≡ fault) → Q fault → IfErr r Q
+handed_on Q (Ok made) fault none is = absurd none
+handed_on Q (Err it) fault same is = subst Q (sym same) is
 
 pub draw_serial-requires-clause-allocated : goal.draw_serial-requires-clause-allocated
 draw_serial-requires-clause-allocated g c = Stands-weaker (λ list placed. placed.allocated) c.requires.placed
@@ -24,3 +29,11 @@ pub returns-clause-lists : goal.returns-clause-lists
 returns-clause-lists g c =
     Becomes-weaker (λ old new there step. draws_and_adds old new c.args.segment c.args.page.0 c.args.size c.args.code c.in_ok-serial.serial c.in_ok-offset.offset step)
     (Becomes-then c.in_ok-serial.ensures.lists c.in_ok-offset.ensures.lists)
+
+pub returns-in_err-offset-clause-fails : goal.returns-in_err-offset-clause-fails
+returns-in_err-offset-clause-fails g c =
+    handed_on _ c.from_residual-in_err-offset.result c.in_err-offset.field-0.0 c.from_residual-in_err-offset.ensures.1
+    (g.met.P.Pages.fails_later _ _ _ _ c.in_ok-serial.ensures.passes c.in_err-offset.ensures.fails)
+
+pub returns-clause-passes : goal.returns-clause-passes
+returns-clause-passes g c = g.met.P.Pages.passes_on _ _ _ c.in_ok-serial.ensures.passes c.in_ok-offset.ensures.passes

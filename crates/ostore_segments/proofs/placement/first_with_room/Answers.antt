@@ -1,4 +1,4 @@
-use Rattle.std.proofs.Common.{◌∙◌, subst, arith}
+use Rattle.std.proofs.Common.{rules, ◌∙◌, subst, arith}
 use Rattle.ostore_segments.specs.inside.Walks.{HasWalked}
 use Rattle.ostore_segments.proofs.ListSteps.{Stands-seen, Stands-weaker, Becomes-look, Becomes-shows}
 use Rattle.ostore_segments.proofs.RoomLaws.{has_room, lacks_room, walk_starts, walk_headed, walk_finds, walk_goes_on, walk_ends, walk_long}
@@ -7,6 +7,7 @@ use Rattle.ostore_segments.proofs.placement.first_with_room.Goals as goal
 pub loop-walked-init : goal.loop-walked-init
 loop-walked-init g c = record {
   seen = Becomes-shows c.requires.allocated (λ list fine seen. walk_starts list c.args.segment c.args.need c.in_ok-page.page fine c.requires.segment seen) c.in_ok-page.ensures.seen;
+  passes = c.in_ok-page.ensures.passes;
   told = c.in_ok-page.ensures.told;
 }
 
@@ -32,9 +33,15 @@ loop-walked-preserved g c = record {
   seen = Becomes-shows c.requires.allocated
       (λ list fine seen. walk_goes_on list c.args.segment c.args.need _ _ c.if-page-eq0.false c.in_ok-header.header seen.0 seen.1 (lacks_room list c.args.need _ c.in_ok-header.header _ seen.1 c.has_room.ensures c.if-has_room.false))
       (Becomes-look c.loop-walked.invariant.seen c.in_ok-header.ensures.seen);
+  passes = g.met.P.Pages.passes_on _ _ _ c.loop-walked.invariant.passes c.in_ok-header.ensures.passes;
   told = c.in_ok-header.ensures.told ∙ c.loop-walked.invariant.told;
 }
 
 pub returns-clause-lists : goal.returns-clause-lists
 returns-clause-lists g c =
     Becomes-shows c.requires.allocated (λ list fine seen. walk_long list c.args.segment c.args.need _ _ fine (omega arith) seen) c.loop-walked.invariant.seen
+
+pub returns-in_err-header-clause-fails : goal.returns-in_err-header-clause-fails
+returns-in_err-header-clause-fails g c =
+    let failed = g.met.P.Pages.fails_later _ _ _ _ c.loop-walked.invariant.passes c.in_err-header.ensures.fails in
+    search rules

@@ -6,5 +6,6 @@ use Rattle.ostore_segments.proofs.placement.first_with_room.Given as goal
 abbrev pub invariant-loop-walked : goal.invariant-loop-walked
 invariant-loop-walked g l = record {
   seen : Becomes (g.P.Pages.held l.fn.pages) (g.P.Pages.held l.pages) (Sees (λ list. HasWalked list l.segment l.need l._walked l.page));
+  passes : g.P.Pages.passes l.fn.pages l.pages;
   told : g.P.Pages.told l.pages ≡ g.P.Pages.told l.fn.pages;
 }

@@ -1,4 +1,4 @@
-use Rattle.std.proofs.Common.{◌∙◌, sym}
+use Rattle.std.proofs.Common.{rules, ◌∙◌, sym}
 use Rattle.ostore_segments.proofs.ListSteps.{Stands-seen, Stands-weaker, Becomes-look, Becomes-shows}
 use Rattle.ostore_segments.proofs.AllocatedLaws.{first_headed}
 use Rattle.ostore_segments.proofs.RoomLaws.{has_room, lacks_room, ends_none, last_headed, ends_with, ends_full}
@@ -34,3 +34,8 @@ returns-clause-lists g c =
     (record { fine = fine; within = c.requires.segment; some = c.if-first-eq0.false; at = seen.0.0; seen = seen.0.1 })
     (lacks_room list c.args.need _ c.in_ok-header.header _ seen.1 c.has_room.ensures c.if-has_room.false))
     (Becomes-look (Becomes-look c.in_ok-first.ensures.seen c.in_ok-header_at.ensures.seen) c.in_ok-header.ensures.seen)
+
+pub returns-in_err-header_at-clause-fails : goal.returns-in_err-header_at-clause-fails
+returns-in_err-header_at-clause-fails g c =
+    let failed = g.met.P.Pages.fails_later _ _ _ _ c.in_ok-first.ensures.passes c.in_err-header_at.ensures.fails in
+    search rules

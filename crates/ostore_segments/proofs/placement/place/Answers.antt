@@ -1,4 +1,4 @@
-use Rattle.std.proofs.Common.{None, Some}
+use Rattle.std.proofs.Common.{rules, None, Some}
 use Rattle.ostore_segments.proofs.ListSteps.{Stands-seen, Stands-weaker, Becomes-look, Becomes-weaker, Becomes-changed}
 use Rattle.ostore_segments.proofs.RoomLaws.{open_last, open_first, open_grown, placed_last, placed_grown, placed_early, full_segment}
 use Rattle.ostore_segments.proofs.placement.place.Goals as goal
@@ -33,3 +33,19 @@ returns-in-None-3-clause-lists g c =
     Becomes-weaker (λ old new there seen. full_segment old new c.args.segment _ seen)
     (Becomes-look (Becomes-look (open_last c.args.segment _ c.in_ok-page.field-0 None c.in-None.is c.in_ok-page.ensures.lists) (open_grown c.args.segment c.in_ok-page-2.field-0 None c.in-None-2.is c.in_ok-page-2.ensures.lists))
     (open_first c.args.segment _ c.in_ok-page-3.field-0 None c.in-None-3.is c.in_ok-page-3.ensures.lists))
+
+pub returns-in_err-page-2-clause-fails : goal.returns-in_err-page-2-clause-fails
+returns-in_err-page-2-clause-fails g c =
+    let failed = g.met.P.Pages.fails_later _ _ _ _ c.in_ok-page.ensures.passes c.in_err-page-2.ensures.fails in
+    search rules
+
+pub returns-in_err-page-3-clause-fails : goal.returns-in_err-page-3-clause-fails
+returns-in_err-page-3-clause-fails g c =
+    let failed = g.met.P.Pages.fails_later _ _ _ _ (g.met.P.Pages.passes_on _ _ _ c.in_ok-page.ensures.passes c.in_ok-page-2.ensures.passes) c.in_err-page-3.ensures.fails in
+    search rules
+
+pub returns-in-Some-3-clause-passes : goal.returns-in-Some-3-clause-passes
+returns-in-Some-3-clause-passes g c = g.met.P.Pages.passes_on _ _ _ (g.met.P.Pages.passes_on _ _ _ c.in_ok-page.ensures.passes c.in_ok-page-2.ensures.passes) c.in_ok-page-3.ensures.passes
+
+pub returns-in-None-3-clause-passes : goal.returns-in-None-3-clause-passes
+returns-in-None-3-clause-passes g c = g.met.P.Pages.passes_on _ _ _ (g.met.P.Pages.passes_on _ _ _ c.in_ok-page.ensures.passes c.in_ok-page-2.ensures.passes) c.in_ok-page-3.ensures.passes

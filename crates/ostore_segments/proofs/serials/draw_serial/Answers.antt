@@ -1,4 +1,4 @@
-use Rattle.std.proofs.Common.{arith}
+use Rattle.std.proofs.Common.{rules, arith}
 use Rattle.ostore_segments.proofs.ListSteps.{Stands-both, Stands-seen, Stands-weaker, Stands-now, Becomes-look, Becomes-changed}
 use Rattle.ostore_segments.proofs.AllocatedLaws.{first_headed}
 use Rattle.ostore_segments.proofs.SerialLaws.{can_draw, draw_fits, draws_next, draw_edit}
@@ -25,3 +25,8 @@ returns-clause-lists g c =
     Becomes-changed (Stands-both c.requires.allocated c.requires.left) (Becomes-look c.in_ok-first_of.ensures.seen c.in_ok-serial.ensures.seen)
     (λ old new known seen written. draws_next old new c.args.segment c.in_ok-first_of.field-0 c.in_ok-serial.field-0 (can_draw _ _ _ old c.requires.segment known.0 known.1 seen.0 seen.1) written)
     c.in_ok-put_number.ensures.lists
+
+pub returns-in_err-serial-clause-fails : goal.returns-in_err-serial-clause-fails
+returns-in_err-serial-clause-fails g c =
+    let failed = g.met.P.Pages.fails_later _ _ _ _ c.in_ok-first_of.ensures.passes c.in_err-serial.ensures.fails in
+    search rules
