@@ -1,5 +1,5 @@
 -- What a write that was cut short leaves of a disk's bytes.
-use Rattle.std.proofs.Common.{◌≡◌, ◌⊎◌, inl, inr, ℕ, zero, suc, ◌+◌, ◌-◌, ◌<◌, ◌≤◌, min, max, ap, ◌∙◌, ◌∷◌, length-append, length-drop, List, [], ◌++◌, length, take, drop, Option, Some, None, IfSome, Result, Ok, Err, OnOk, refl, sym, subst, arith}
+use Rattle.std.proofs.Common.{◌≡◌, ◌⊎◌, inl, inr, ℕ, zero, suc, ◌+◌, ◌-◌, ◌<◌, ◌≤◌, ap, ◌∙◌, ◌∷◌, length-append, length-drop, List, [], ◌++◌, length, take, drop, Option, Some, None, refl, sym, subst, arith}
 use Rattle.std.proofs.lemmas.Bool.{cases_lt}
 use Rattle.std.proofs.lemmas.Grind.{common_steps}
 use Rattle.std.proofs.lemmas.List.{drop-drop, drop_all, take_all}
@@ -34,11 +34,6 @@ torn_front at n piece held short = record { before = grind (arith, common_steps)
         let place : at + m + (n - m) ≡ at + n = omega (arith, short) in
         let there : drop (n - m) (drop (at + m) held) ≡ drop (at + n) held = drop-drop (n - m) (at + m) held ∙ ap (λ (k : ℕ). drop k held) place in
         ap (take (length held - (at + n))) (far ∙ there) ∙ take_all (length held - (at + n)) (drop (at + n) held) (omega (arith, length-drop (at + n) held))
-
--- the same of a call that may fail
-pub front_left : {X E : Type 0} (result : Result X E) (at n : ℕ) (piece held new : List ℕ) → length piece ≤ n → OnOk result (new ≡ replaced at piece held) → OnOk result (IsTornRange at n held new)
-front_left (Ok x) at n piece held new short is = subst (λ (l : List ℕ). IsTornRange at n held l) (sym is) (torn_front at n piece held short)
-front_left (Err e) at n piece held new short is = tt
 
 -- the same of a disk that may not tell
 pub IsTorn-same : (at n : ℕ) (held : Option (List ℕ)) → IsTorn at n held held

@@ -4,3 +4,4 @@ pub mod DiskLemmas
 pub mod ImageLemmas
 pub mod MomentLemmas
 pub mod RecordLemmas
+pub mod CrashLemmas

@@ -1,8 +1,7 @@
 -- How the record of a disk's calls goes on.
-use Rattle.std.proofs.Common.{◌≡◌, ◌⊎◌, inl, inr, ℕ, zero, suc, ◌+◌, ◌<◌, ◌≤◌, List, [], ◌∷◌, ◌++◌, length, drop, All, slice_index_or, Result, Ok, Err, OnOk, OnErr, Option, Some, refl, sym, ◌∙◌, ap, ⊎_elim, subst, arith}
+use Rattle.std.proofs.Common.{◌≡◌, ◌⊎◌, inl, inr, ℕ, zero, suc, ◌+◌, ◌<◌, List, [], ◌∷◌, length, drop, slice_index_or, Result, Ok, Err, OnOk, OnErr, sym, ◌∙◌, ap, ⊎_elim, subst, arith}
 use Rattle.std.proofs.lemmas.List.{drop_more}
-use Rattle.std.proofs.lemmas.List.Elements.{All-append, All-cons, All-nil}
-use Rattle.ostore_base.specs.Disk.{replaced, IsTornRange}
+use Rattle.ostore_base.specs.Disk.{IsTornRange}
 use Rattle.ostore_base.specs.Images.{Follows, Keeps, Elapses}
 use Rattle.ostore_base.specs.declared.memory.disk_call.DiskCall.{DiskCall}
 use Rattle.ostore_base.specs.declared.memory.disk_call.DiskCall.TheVariants.{Written, Torn, Synced}
@@ -128,8 +127,3 @@ kept_twice old mid new first second =
 -- the calls from one on
 pub at_call : (past : List DiskCall) (i : ℕ) (call : DiskCall) → i < length past → call ≡ slice_index_or past i call → drop i past ≡ call ∷ drop (i + 1) past
 at_call past i call below is = drop_more past i call below ∙ ap (λ (x : DiskCall). x ∷ drop (i + 1) past) (sym is)
-
--- one image more
-pub one_left : (first : List ℕ) (past : List DiskCall) (skip t : ℕ) (image : List ℕ) (images : List (List ℕ)) → IsImage first (drop skip past) image → skip + t ≤ length past → All (LeftSince first past t) images → All (LeftSince first past t) (images ++ image ∷ [])
-one_left first past skip t image images is le all =
-    All-append (LeftSince first past t) images (image ∷ []) all (All-cons (LeftSince first past t) image [] (skip, le, is) (All-nil (LeftSince first past t)))

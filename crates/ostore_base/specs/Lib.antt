@@ -6,4 +6,5 @@ pub mod Disk
 pub mod Images
 pub mod Memory
 pub mod MemoryDisk
+pub mod CrashImages
 pub mod inside

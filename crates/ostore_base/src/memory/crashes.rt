@@ -1,8 +1,9 @@
 //! What a crash may leave of a disk in memory, built for tests.
 
-ghost use Rattle.std.specs.Prelude.{◌≡◌, ℕ, ◌+◌, ◌≤◌, length, drop, All, IfOk, OnOk};
-ghost use Rattle.ostore_base.specs.Disk.{replaced, IsTornRange};
-ghost use Rattle.ostore_base.specs.MemoryDisk.{content_after, IsImage, LeftSince};
+ghost use Rattle.std.specs.Prelude.{◌≡◌, ◌≤◌, ◌++◌, ◌∷◌, [], length, drop, All, IfOk, OnOk};
+ghost use Rattle.ostore_base.specs.Disk.{replaced};
+ghost use Rattle.ostore_base.specs.MemoryDisk.{content_after, LeftSince};
+ghost use Rattle.ostore_base.specs.CrashImages.{filled, remaining, remaining_torn, image_left, cases_tried, tried, TriesAll};
 
 use crate::list::ListOf;
 use crate::memory::disk_call::DiskCall;
@@ -36,21 +37,13 @@ fn put_over(image: &mut Vec<u8>, at: usize, bytes: &[u8]) -> Result<(), OutOfMem
 
 // Fills a range with a byte, and adds some past the end.
 fn fill_over(image: &mut Vec<u8>, at: usize, size: usize, byte: u8) -> Result<(), OutOfMemory>
-    ensures { OnOk result (IsTornRange at size image.old.items image.new.items) }
+    ensures { OnOk result (image.new.items ≡ filled byte at size image.old.items) }
 {
     let mut filled = Vec::new(*image.allocator());
     filled.resize(size, byte)?;
     put_over(image, at, &filled)?;
     image.extend_from_slice(&[byte; PAST])?;
     Ok(())
-}
-
-// Writes a piece in place of so many bytes, or of more.
-fn put_piece(image: &mut Vec<u8>, at: usize, piece: &[u8], size: usize) -> Result<(), OutOfMemory>
-    requires { length piece.now ≤ size }
-    ensures { OnOk result (IsTornRange at size image.old.items image.new.items) }
-{
-    put_over(image, at, piece)
 }
 
 // Leaves of a write what remains.
@@ -60,12 +53,12 @@ fn put_remains(
     bytes: &[u8],
     remains: Remains,
 ) -> Result<(), OutOfMemory>
-    ensures { OnOk result (IsTornRange at (length bytes.now) image.old.items image.new.items) }
+    ensures { OnOk result (image.new.items ≡ remaining remains at bytes.now image.old.items) }
 {
     match remains {
-        Remains::Whole => put_piece(image, at, bytes, bytes.len()),
+        Remains::Whole => put_over(image, at, bytes),
         Remains::Nothing => Ok(()),
-        Remains::FirstHalf => put_piece(image, at, &bytes[..bytes.len() / 2], bytes.len()),
+        Remains::FirstHalf => put_over(image, at, &bytes[..bytes.len() / 2]),
         Remains::Filled(byte) => fill_over(image, at, bytes.len(), byte),
     }
 }
@@ -77,7 +70,7 @@ fn tear_remains(
     size: usize,
     remains: Remains,
 ) -> Result<(), OutOfMemory>
-    ensures { OnOk result (IsTornRange at size image.old.items image.new.items) }
+    ensures { OnOk result (image.new.items ≡ remaining_torn remains at size image.old.items) }
 {
     match remains {
         Remains::Filled(byte) => fill_over(image, at, size, byte),
@@ -116,7 +109,8 @@ pub(super) fn crashed(
     others: Remains,
 ) -> Result<Vec<u8>, OutOfMemory>
     requires { skip ≤ length past.now.items }
-    ensures { IfOk result (λ image. IsImage first.now (drop skip past.now.items) image.items) }
+    ensures { IfOk result (λ image.
+        image.items ≡ image_left first.now (drop skip past.now.items) newest others) }
 {
     if skip >= past.len() {
         return Ok(Vec::from_slice(*past.allocator(), first)?);
@@ -137,7 +131,9 @@ pub(super) fn crashed(
 }
 
 // What remains of the newest write, and of those before it: the ten cases that are tried.
-fn cases(filler: u8) -> [(Remains, Remains); 10] {
+fn cases(filler: u8) -> [(Remains, Remains); 10]
+    ensures { result ≡ cases_tried filler }
+{
     let filled = Remains::Filled(filler);
     [
         (Remains::Whole, Remains::Whole),
@@ -162,9 +158,8 @@ fn add_image(
     case: (Remains, Remains),
 ) -> Result<(), OutOfMemory>
     requires { skip ≤ length past.now.items }
-    ensures { OnOk result ((t : ℕ) → skip + t ≤ length past.now.items
-        → All (LeftSince first.now past.now.items t) images.old
-        → All (LeftSince first.now past.now.items t) images.new) }
+    ensures { OnOk result (images.new ≡ images.old
+        ++ image_left first.now (drop skip past.now.items) case.0 case.1 ∷ []) }
 {
     let image = crashed(first, past, skip, case.0, case.1)?;
     images.push(ListOf::from_vec(image))?;
@@ -180,12 +175,12 @@ fn add_images(
     filler: u8,
 ) -> Result<(), OutOfMemory>
     requires { skip ≤ length past.now.items }
-    ensures { OnOk result ((t : ℕ) → skip + t ≤ length past.now.items
-        → All (LeftSince first.now past.now.items t) images.old
-        → All (LeftSince first.now past.now.items t) images.new) }
+    ensures { OnOk result
+        (images.new ≡ images.old ++ tried first.now (drop skip past.now.items) filler) }
 {
-    for case in cases(filler) {
-        add_image(images, first, past, skip, case)?;
+    let cases = cases(filler);
+    for number in 0..cases.len() {
+        add_image(images, first, past, skip, cases[number])?;
     }
     Ok(())
 }
@@ -197,7 +192,8 @@ pub(super) fn images_since(
     since: usize,
     filler: u8,
 ) -> Result<ListOf<ListOf<u8>>, OutOfMemory>
-    ensures { IfOk result (All (LeftSince first.now past.now.items since)) }
+    ensures images { IfOk result (All (LeftSince first.now past.now.items since)) }
+    ensures all { IfOk result (TriesAll first.now past.now.items since filler) }
 {
     let mut images = ListOf::new(*past.allocator());
     for moment in since..past.len() + 1 {

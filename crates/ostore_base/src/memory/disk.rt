@@ -5,6 +5,7 @@ ghost use Rattle.ostore_base.specs.Disk.{replaced, StandsAt, IsTornRange};
 ghost use Rattle.ostore_base.specs.Images.{Follows, Keeps, IsSure};
 ghost use Rattle.ostore_base.specs.Memory.{IsNextNamed, CountsCall};
 ghost use Rattle.ostore_base.specs.MemoryDisk.{DiskState, fresh_disk, reads, memory_of, MayLeave, MightHaveLeft, Passes, IsImage, KeepsPast};
+ghost use Rattle.ostore_base.specs.CrashImages.{image_left, TriesAll};
 ghost use Rattle.ostore_base.specs.inside.Recorded.{RecordsSync, RecordsTorn, RecordsWrite};
 ghost use Rattle.ostore_base.specs.declared.memory.disk_call.DiskCall.TheVariants.{Written};
 
@@ -100,6 +101,7 @@ impl MemDisk {
 
     /// What a crash may leave after the first `moment` of the recorded calls, where `newest` remains
     /// of the last write among them and `others` of each earlier one that no sync made sure of.
+    #[tactic(auto, using(crate::proofs::CrashLemmas::image_of))]
     pub fn crash_image(
         &self,
         moment: usize,
@@ -107,7 +109,9 @@ impl MemDisk {
         others: Remains,
     ) -> Result<ListOf<u8>, OutOfMemory>
         requires { moment ≤ length self.now.past }
-        ensures { IfOk result
+        ensures exact { IfOk result (λ image. image ≡ image_left self.now.first
+            (drop (length self.now.past - moment) self.now.past) newest others) }
+        ensures image { IfOk result
             (IsImage self.now.first (drop (length self.now.past - moment) self.now.past)) }
     {
         let skip = self.past.len() - moment;
@@ -119,7 +123,8 @@ impl MemDisk {
     /// remain whole, not at all, by their first half, or filled with `filler`, which then stands past
     /// the end too.
     pub fn crash_images(&self, since: usize, filler: u8) -> Result<ListOf<ListOf<u8>>, OutOfMemory>
-        ensures { IfOk result (λ images. All (MightHaveLeft self.now since) images) }
+        ensures images { IfOk result (λ images. All (MightHaveLeft self.now since) images) }
+        ensures all { IfOk result (TriesAll self.now.first self.now.past since filler) }
     {
         images_since(self.first(), &self.past, since, filler)
     }

@@ -1,8 +1,8 @@
--- The images so far are ones that a crash might have left.
-use Rattle.std.proofs.Common.{ℕ, ◌+◌, ◌≤◌, All, length}
-use Rattle.ostore_base.specs.MemoryDisk.{LeftSince}
+-- The images of the cases so far were added.
+use Rattle.std.proofs.Common.{◌≡◌, ◌++◌, map, take, drop}
+use Rattle.ostore_base.specs.declared.memory.crashes.Remains.{Remains}
+use Rattle.ostore_base.specs.CrashImages.{image_left, cases_tried}
 use Rattle.ostore_base.proofs.memory.crashes.add_images.Given as goal
 
-abbrev pub invariant-loop-case : goal.invariant-loop-case
-invariant-loop-case l =
-    (t : ℕ) → l.skip + t ≤ length l.past.items → All (LeftSince l.first l.past.items t) l.fn.images → All (LeftSince l.first l.past.items t) l.images
+abbrev pub invariant-loop-number : goal.invariant-loop-number
+invariant-loop-number l = l.images ≡ l.fn.images ++ map (λ (case : Remains × Remains). image_left l.first (drop l.skip l.past.items) case.0 case.1) (take l.number (cases_tried l.filler))

@@ -1,4 +1,4 @@
-use Rattle.std.proofs.Common.{ℕ, ◌+◌, ◌≡◌, List, [], ◌∷◌, length, Option, Some, None, inl, inr, sym, subst}
+use Rattle.std.proofs.Common.{ℕ, ◌+◌, ◌≡◌, List, length, Option, Some, None, inl, inr, subst}
 use Rattle.std.specs.Option.{option_map}
 use Rattle.ostore_base.specs.Disk.{replaced, IsTornRange}
 use Rattle.ostore_base.specs.Images.{OfTold}
