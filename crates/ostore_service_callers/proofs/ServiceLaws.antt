@@ -1,15 +1,16 @@
 -- One call after another.
-use Rattle.std.proofs.Common.{◌≡◌, ◌≢◌, ℕ, ◌<◌, ◌⊎◌, inl, inr, true, false, [], ◌∷◌, ◌++◌, Option, Result, Ok, Err, sym, ap, subst, ◌∙◌, arith}
+use Rattle.std.proofs.Common.{◌≡◌, ◌≢◌, ℕ, ◌<◌, ◌⊎◌, inl, inr, true, false, [], ◌∷◌, ◌++◌, Option, Some, None, Result, Ok, Err, refl, sym, ap, subst, ◌∙◌, arith}
 use Rattle.std.specs.Prelude.{OnOk, IfErr, IsSome}
 use Rattle.std.specs.Option.{option_map}
 use Rattle.std.proofs.lemmas.Bool.{false≢true}
+use Rattle.std.proofs.lemmas.Option.{none-some}
 use Rattle.ostore_base.specs.Limits.{most_clients}
 use Rattle.ostore_base.specs.Faults.{Rose}
 use Rattle.ostore_base.specs.declared.page.PageImage.{PageImage}
 use Rattle.ostore_page_service.specs.declared.answers.Busy.{Busy}
 use Rattle.ostore_page_service.specs.Told.{Side, Told, Undisturbed, SameService, SameRecords, SamePages, SameElsewhere, NoBusy, BecomesOwner, OwnedByAnother, UsedByAnother, Refuses}
 use Rattle.ostore_service_callers.specs.Held.{HoldsBoth}
-use Rattle.ostore_service_callers.specs.Claimed.{IsCounted, MeetsOwner}
+use Rattle.ostore_service_callers.specs.Claimed.{ComesIntoUse, IsCounted, MeetsOwner}
 
 undisturbed_then : {E : Type 0} {a b c : Side E} → Undisturbed a b → Undisturbed b c → Undisturbed a c
 undisturbed_then x y = record {
@@ -94,6 +95,19 @@ third (Err busy) a b p q others one two met =
     not_first : (d k : ℕ) → d ≡ 0 → (k ≡ p) ⊎ (k ≡ q) → (b d).owned k ≡ true → ⊥
     not_first d k zero (inl is) own = false≢true (sym one ∙ subst (λ n. (b 0).owned n ≡ true) is (subst (λ n. (b n).owned k ≡ true) zero own))
     not_first d k zero (inr is) own = false≢true (sym two ∙ subst (λ n. (b 0).owned n ≡ true) is (subst (λ n. (b n).owned k ≡ true) zero own))
+
+-- where a client kept no copy, it keeps none after what others did
+no_copy : (now before : Option PageImage) → ((image : PageImage) → now ≡ Some image → before ≡ Some image) → before ≡ None → now ≡ None
+no_copy None before kept none = refl
+no_copy (Some image) before kept none = absurd (none-some image (sym none ∙ kept image refl))
+
+-- a page that comes into use afterwards comes so from before it
+pub comes_after : {T X E : Type 0} (r : Result T X) (a b c : Side E) (p : ℕ) (image : PageImage) → Undisturbed a b → OnOk r (ComesIntoUse b c p image) → OnOk r (ComesIntoUse a c p image)
+comes_after (Ok x) a b c p image same comes = record {
+  owned = comes.owned;
+  fetched = λ none. comes.fetched (no_copy (b.kept p) (a.kept p) (same.kept p) none);
+}
+comes_after (Err e) a b c p image same comes = tt
 
 -- ---- other pages
 

@@ -111,7 +111,7 @@ pub fn one_turn<K: Kind, D: Disk>(
 }
 
 /// Two clients in turn: the second one's turn leaves what the first one holds. Busy comes only where a client
-/// other than the first one owned a page before.
+/// other than the first one owned a page before. The images that the second one fetched are put out.
 pub fn two_turns<K: Kind, D: Disk>(
     server: &mut SeqServer<K, D>,
     one: PageNo,
@@ -127,6 +127,10 @@ pub fn two_turns<K: Kind, D: Disk>(
     ensures served { StillServes (Serves server.old) (Serves server.new) }
     ensures first { OnOk result (HoldsBoth (side_of server.new 0).held one.0 two.0) }
     ensures second { OnOk result (HoldsBoth (side_of server.new 1).held one.0 two.0) }
+    ensures one { OnOk result
+        (ComesIntoUse (side_of server.old 1) (side_of server.new 1) one.0 into.new) }
+    ensures two { OnOk result
+        (ComesIntoUse (side_of server.old 1) (side_of server.new 1) two.0 other.new) }
     ensures busy { IfErr result (MeetsOwner (side_of server.old) 0 one.0 two.0) }
 {
     one_turn(server, ClientNo(0), one, two, into, other)?;
