@@ -1,0 +1,87 @@
+//! The lines of a transaction.
+
+ghost use Rattle.std.specs.Prelude.{◌≡◌, ◌<◌, length, IfOk, OnOk, IfErr};
+ghost use Rattle.std.specs.List.{AllByRecursion};
+ghost use Rattle.ostore_segments.specs.Holdings.{Stands, Becomes, Sees};
+ghost use Rattle.ostore_graph_model.specs.Valid.{IsValid};
+ghost use Rattle.ostore_object_ops.specs.Bound.{leads_of};
+ghost use Rattle.ostore_object_ops.specs.Means.{HasMeaning};
+ghost use Rattle.ostore_object_ops.specs.Suits.{Suits, MayUpdate, IsBuilt};
+ghost use Rattle.ostore_object_ops.specs.Executes.{IfNoSpace};
+ghost use Rattle.ostore_object_ops.specs.Lines.{RunsLine, LacksLine, Transacts, LacksGrowth};
+
+use crate::commands::run_command;
+use crate::progress::Progress;
+use crate::stop::Stop;
+use ostore_graph_model::{Replies, Txn};
+use ostore_schema_layout::Schema;
+use ostore_segments::CellPages;
+use std::alloc::Global;
+
+/// Executes the next line of a transaction, whose commands are of those that run, and adds its reply to the
+/// progress. It stops as [`run_command`] does.
+pub fn run_line<P: CellPages>(
+    pages: &mut P,
+    schema: &Schema,
+    txn: &Txn,
+    progress: &mut Progress,
+) -> Result<(), Stop<P::Fault>>
+where
+    P::Fault: Drop,
+    requires suits { Suits schema.now (P.told pages.old) }
+    requires may { MayUpdate txn.now.update (P.told pages.old) }
+    requires built { AllByRecursion IsBuilt txn.now.commands }
+    requires left { length progress.old.replies.items < length txn.now.commands }
+    requires stands { Stands (P.held pages.old)
+        (HasMeaning schema.now (leads_of (P.held pages.old) progress.old.vars)) }
+    ensures lists { OnOk result (Becomes (P.held pages.old) (P.held pages.new)
+        (RunsLine schema.now txn.now progress.old.replies.items progress.new.replies.items
+        (leads_of (P.held pages.old) progress.old.vars)
+        (leads_of (P.held pages.new) progress.new.vars))) }
+    ensures space { IfErr result (IfNoSpace (λ no. Becomes (P.held pages.old) (P.held pages.new)
+        (Sees (LacksLine schema.now txn.now progress.old.replies.items no)))) }
+    ensures told { P.told pages.new ≡ P.told pages.old }
+{
+    let commands = txn.commands.items();
+    let place = progress.replies.len();
+    let command = &commands[place];
+    let reply = match run_command(pages, schema, txn.update, &mut progress.vars, command) {
+        Ok(reply) => reply,
+        Err(stop) => return Err(stop),
+    };
+    match progress.replies.push(reply) {
+        Ok(()) => {}
+        Err(_) => return Err(Stop::OutOfMemory),
+    }
+    Ok(())
+}
+
+/// Executes all lines of a transaction, and gives the replies to its commands. NoSpace comes only where fewer pages
+/// were free than the transaction may take.
+pub fn run_transaction<P: CellPages>(
+    alloc: Global,
+    pages: &mut P,
+    schema: &Schema,
+    txn: &Txn,
+) -> Result<Replies, Stop<P::Fault>>
+where
+    P::Fault: Drop,
+    requires suits { Suits schema.now (P.told pages.old) }
+    requires may { MayUpdate txn.now.update (P.told pages.old) }
+    requires built { AllByRecursion IsBuilt txn.now.commands }
+    requires stands { Stands (P.held pages.old) (IsValid schema.now) }
+    ensures lists { IfOk result (λ replies. Becomes (P.held pages.old) (P.held pages.new)
+        (Transacts schema.now txn.now replies)) }
+    ensures space { IfErr result (IfNoSpace (λ no. Becomes (P.held pages.old) (P.held pages.new)
+        (λ old new. LacksGrowth txn.now old))) }
+    ensures told { P.told pages.new ≡ P.told pages.old }
+{
+    let mut progress = Progress::new(alloc);
+    for _line in 0..txn.commands.items().len() {
+        match run_line(pages, schema, txn, &mut progress) {
+            Ok(()) => {}
+            Err(stop) => return Err(stop),
+        }
+    }
+    Ok(progress.into_replies())
+}
