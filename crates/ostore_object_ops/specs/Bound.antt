@@ -1,5 +1,5 @@
 -- What variables are bound to.
-use Rattle.std.specs.Prelude.{ℕ, List, Option, Some, if◌then◌else◌}
+use Rattle.std.specs.Prelude.{◌≡◌, ℕ, List, Option, Some, if◌then◌else◌}
 use Rattle.std.specs.Option.{option_map}
 use Rattle.std.specs.Ordering.{nat_cmp, eq_by_cmp}
 use Rattle.std.specs.Cmp.Lexicographic.{slice_cmp}
@@ -16,6 +16,10 @@ bound_by vars variable = get_by (λ key. slice_cmp nat_cmp variable key.items) v
 -- one variable is bound to a pointer, and the others as before
 abbrev pub with_bound : (List ℕ → Option ℕ) → List ℕ → ℕ → List ℕ → Option ℕ
 with_bound bound to pointer variable = if eq_by_cmp text_cmp variable to then Some pointer else bound variable
+
+-- each variable is bound as before
+abbrev pub SameBound : Vars → Vars → Type 0
+SameBound old new = (variable : List ℕ) → bound_by new variable ≡ bound_by old variable
 
 -- where the variables lead to, by the homes of resident pointers
 abbrev pub leads_of : PagesHeld → Vars → Leads

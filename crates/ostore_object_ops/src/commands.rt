@@ -1,8 +1,8 @@
 //! One command.
 
-ghost use Rattle.std.specs.Prelude.{◌≡◌, IfOk, IfErr};
+ghost use Rattle.std.specs.Prelude.{◌≡◌, IfOk, IfErr, OnErr};
 ghost use Rattle.ostore_segments.specs.Holdings.{Stands, Becomes, Sees};
-ghost use Rattle.ostore_object_ops.specs.Bound.{leads_of};
+ghost use Rattle.ostore_object_ops.specs.Bound.{leads_of, SameBound};
 ghost use Rattle.ostore_object_ops.specs.Means.{HasMeaning};
 ghost use Rattle.ostore_object_ops.specs.Suits.{Suits, MayUpdate, IsBuilt};
 ghost use Rattle.ostore_object_ops.specs.Executes.{Executes, IfNoSpace, LacksSpace};
@@ -52,8 +52,8 @@ fn run_set<P: CellPages>(
 /// Runs one command of a transaction, which is one of those that run. A refusal is a reply, and changes nothing.
 /// Each answer holds of every list for which the holder may stand: the reply is the command's on the graph that the
 /// list stands for, and the list that is made of it is valid and stands for the graph that the command leaves.
-/// NoSpace comes exactly where `new` finds no place for its object; then the pages and the variables stay. After
-/// a fault or want of memory nothing is told of the pages.
+/// NoSpace comes exactly where `new` finds no place for its object; then the pages stay. After a fault or want of
+/// memory nothing is told of the pages. A command that isn't executed binds no variable.
 pub fn run_command<P: CellPages>(
     pages: &mut P,
     schema: &Schema,
@@ -73,6 +73,7 @@ where
         (leads_of (P.held pages.old) vars.old) (leads_of (P.held pages.new) vars.new))) }
     ensures space { IfErr result (IfNoSpace (λ no. Becomes (P.held pages.old) (P.held pages.new)
         (Sees (LacksSpace schema.now update command.now no)))) }
+    ensures vars { OnErr result (SameBound vars.old vars.new) }
     ensures told { P.told pages.new ≡ P.told pages.old }
 {
     match command {

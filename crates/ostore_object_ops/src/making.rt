@@ -1,6 +1,6 @@
 //! `new`.
 
-ghost use Rattle.std.specs.Prelude.{◌≡◌, ◌<◌, ◌+◌, true, IfOk, IfErr, MatchResult, ⊤};
+ghost use Rattle.std.specs.Prelude.{◌≡◌, ◌<◌, ◌+◌, true, IfOk, IfErr, OnErr, MatchResult, ⊤};
 ghost use Rattle.ostore_base.specs.declared.page.TheConstants.{PAGE_SIZE};
 ghost use Rattle.ostore_graph_model.specs.declared.commands.Command.TheVariants as commands;
 ghost use Rattle.ostore_page_tags.specs.declared.layout.TheConstants.{ROW_BYTES};
@@ -12,7 +12,7 @@ ghost use Rattle.ostore_segments.specs.Holdings.{Stands, Becomes, Sees};
 ghost use Rattle.ostore_segments.specs.Serials.{AreSpent};
 ghost use Rattle.ostore_segments.specs.Placing.{FindsNone};
 ghost use Rattle.ostore_segments.specs.Making.{Makes};
-ghost use Rattle.ostore_object_ops.specs.Bound.{leads_of};
+ghost use Rattle.ostore_object_ops.specs.Bound.{leads_of, SameBound};
 ghost use Rattle.ostore_object_ops.specs.Means.{HasMeaning};
 ghost use Rattle.ostore_object_ops.specs.Suits.{Suits};
 ghost use Rattle.ostore_object_ops.specs.Executes.{Executes, IfNoSpace, LacksSpace};
@@ -82,6 +82,7 @@ where
     ensures space { let command = commands.New to.now ty.now segment in
         IfErr result (IfNoSpace (λ no. Becomes (P.held pages.old) (P.held pages.new)
         (Sees (LacksSpace schema.now true command no)))) }
+    ensures vars { OnErr result (SameBound vars.old vars.new) }
     ensures told { P.told pages.new ≡ P.told pages.old }
 {
     let Some(number) = schema.type_named(ty.bytes()) else {

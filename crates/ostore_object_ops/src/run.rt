@@ -1,6 +1,6 @@
 //! The lines of a transaction.
 
-ghost use Rattle.std.specs.Prelude.{◌≡◌, ◌<◌, length, IfOk, OnOk, IfErr};
+ghost use Rattle.std.specs.Prelude.{◌≡◌, ◌<◌, length, IfOk, OnOk, OnErr, IfErr};
 ghost use Rattle.std.specs.List.{AllByRecursion};
 ghost use Rattle.ostore_segments.specs.Holdings.{Stands, Becomes, Sees};
 ghost use Rattle.ostore_graph_model.specs.Valid.{IsValid};
@@ -19,7 +19,7 @@ use ostore_segments::CellPages;
 use std::alloc::Global;
 
 /// Executes the next line of a transaction, whose commands are of those that run, and adds its reply to the
-/// progress. It stops as [`run_command`] does.
+/// progress. It stops as [`run_command`] does, and the replies then stay.
 pub fn run_line<P: CellPages>(
     pages: &mut P,
     schema: &Schema,
@@ -40,6 +40,7 @@ where
         (leads_of (P.held pages.new) progress.new.vars))) }
     ensures space { IfErr result (IfNoSpace (λ no. Becomes (P.held pages.old) (P.held pages.new)
         (Sees (LacksLine schema.now txn.now progress.old.replies.items no)))) }
+    ensures kept { OnErr result (progress.new.replies.items ≡ progress.old.replies.items) }
     ensures told { P.told pages.new ≡ P.told pages.old }
 {
     let commands = txn.commands.items();

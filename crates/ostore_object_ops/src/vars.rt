@@ -1,7 +1,7 @@
 //! The variables of a transaction.
 
 ghost use Rattle.std.specs.Prelude.{◌≡◌, ℕ, List, None, OnOk, OnErr};
-ghost use Rattle.ostore_object_ops.specs.Bound.{bound_by, with_bound};
+ghost use Rattle.ostore_object_ops.specs.Bound.{bound_by, with_bound, SameBound};
 
 use ostore_base::{OutOfMemory, Text};
 use std::alloc::Global;
@@ -33,8 +33,9 @@ impl Vars {
 
     /// Binds a variable to a pointer, whether it was bound or not.
     pub fn bind(&mut self, variable: &Text, pointer: u32) -> Result<(), OutOfMemory>
-        ensures { OnOk result ((other : List ℕ) →
+        ensures bound { OnOk result ((other : List ℕ) →
             bound_by self.new other ≡ with_bound (bound_by self.old) variable.now pointer other) }
+        ensures err { OnErr result (SameBound self.old self.new) }
     {
         self.bound.insert(variable.copy()?.into_vec(), pointer)?;
         Ok(())

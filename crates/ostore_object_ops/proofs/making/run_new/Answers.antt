@@ -75,5 +75,5 @@ returns-clause-lists g c =
     (λ old new known seen makes.
     new_done c.args.schema.now (g.P.Pages.held c.args.pages.now).home (g.P.Pages.held c.make_cell.new.pages).home (bound_by c.args.vars.now) (bound_by c.bind.new.self) c.args.to.now c.args.ty.now c.args.segment c.pointer_to.result old new
     c.in-Ok-made.cell.page.0 c.in-Ok-made.cell.offset c.in-Ok-made.cell.serial c.in-Some.number c.requires.suits.ints is named c.requires.segment
-    (λ spent. true≢false (sym (seen.1 spent) ∙ c.if-spent.false)) known.means.valid.pages_kept.allocated makes homes c.in-Ok-bind.ensures c.pointer_to.ensures)
+    (λ spent. true≢false (sym (seen.1 spent) ∙ c.if-spent.false)) known.means.valid.pages_kept.allocated makes homes c.in-Ok-bind.ensures.bound c.pointer_to.ensures)
     opened

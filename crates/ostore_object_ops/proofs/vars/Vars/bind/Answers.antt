@@ -8,8 +8,8 @@ use Rattle.ostore_object_ops.specs.Bound.{bound_by}
 use Rattle.ostore_object_ops.proofs.VarsLaws.{lookup-put}
 use Rattle.ostore_object_ops.proofs.vars.Vars.bind.Goals as goal
 
-pub returns : goal.returns
-returns c = λ other.
+pub returns-clause-bound : goal.returns-clause-bound
+returns-clause-bound c = λ other.
     ap (λ es. lookup (λ k. is_eq (text_cmp other k.items)) es) c.in_ok-insert.ensures.entries
     ∙ lookup-put (λ (k : Vec ℕ Global). k.items) c.into_vec.result c.args.pointer other c.args.self.now.bound.entries
     ∙ ap (λ (bytes : List ℕ). cond (eq_by_cmp text_cmp other bytes) (Some c.args.pointer) (bound_by c.args.self.now other)) (c.into_vec.ensures ∙ c.in_ok-copy.ensures)
