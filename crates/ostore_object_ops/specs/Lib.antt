@@ -3,6 +3,7 @@
 pub mod Bound
 pub mod Means
 pub mod Suits
+pub mod Progresses
 pub mod Executes
 pub mod Lines
 pub mod LawsOfRuns

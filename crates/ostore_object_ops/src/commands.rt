@@ -49,11 +49,11 @@ fn run_set<P: CellPages>(
     }
 }
 
-/// Runs one command of a transaction, which is one of those that run. A refusal is a reply, and changes nothing.
-/// Each answer holds of every list for which the holder may stand: the reply is the command's on the graph that the
-/// list stands for, and the list that is made of it is valid and stands for the graph that the command leaves.
-/// NoSpace comes exactly where `new` finds no place for its object; then the pages stay. After a fault or want of
-/// memory nothing is told of the pages. A command that isn't executed binds no variable.
+/// Runs one command of a transaction, which is one of those that run. A refusal is a reply, and changes
+/// nothing. Each answer holds of every list for which the holder may stand: the reply is the command's on the
+/// graph that the list stands for, and the list that is made of it is valid and stands for the graph that the
+/// command leaves. NoSpace comes exactly where `new` finds no place for its object; then the pages stay. After
+/// a fault or want of memory nothing is told of the pages. A command that isn't executed binds no variable.
 pub fn run_command<P: CellPages>(
     pages: &mut P,
     schema: &Schema,

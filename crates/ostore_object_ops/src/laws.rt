@@ -1,6 +1,6 @@
-//! Laws of the lines of a transaction, each the contract of a function that does nothing. A caller who runs lines one
-//! by one, with other work between them, calls their functions to know what all of them make of the list with which it
-//! began.
+//! Laws of the lines of a transaction, each the contract of a function that does nothing. A caller who runs
+//! lines one by one, with other work between them, calls their functions to know what all of them make of the
+//! list with which it began.
 
 ghost use Rattle.ostore_object_ops.specs.LawsOfRuns.{LawOfFirstLines, LawOfNextLines, LawOfMeanings, LawOfLastLines};
 

@@ -4,7 +4,7 @@ ghost use Rattle.std.specs.Prelude.{◌≡◌, ◌<◌, length, IfOk, OnOk, OnEr
 ghost use Rattle.std.specs.List.{AllByRecursion};
 ghost use Rattle.ostore_segments.specs.Holdings.{Stands, Becomes, Sees};
 ghost use Rattle.ostore_graph_model.specs.Valid.{IsValid};
-ghost use Rattle.ostore_object_ops.specs.Bound.{leads_of};
+ghost use Rattle.ostore_object_ops.specs.Progresses.{replies_of, leads_by};
 ghost use Rattle.ostore_object_ops.specs.Means.{HasMeaning};
 ghost use Rattle.ostore_object_ops.specs.Suits.{Suits, MayUpdate, IsBuilt};
 ghost use Rattle.ostore_object_ops.specs.Executes.{IfNoSpace};
@@ -31,16 +31,15 @@ where
     requires suits { Suits schema.now (P.told pages.old) }
     requires may { MayUpdate txn.now.update (P.told pages.old) }
     requires built { AllByRecursion IsBuilt txn.now.commands }
-    requires left { length progress.old.replies.items < length txn.now.commands }
+    requires left { length (replies_of progress.old) < length txn.now.commands }
     requires stands { Stands (P.held pages.old)
-        (HasMeaning schema.now (leads_of (P.held pages.old) progress.old.vars)) }
+        (HasMeaning schema.now (leads_by (P.held pages.old) progress.old)) }
     ensures lists { OnOk result (Becomes (P.held pages.old) (P.held pages.new)
-        (RunsLine schema.now txn.now progress.old.replies.items progress.new.replies.items
-        (leads_of (P.held pages.old) progress.old.vars)
-        (leads_of (P.held pages.new) progress.new.vars))) }
+        (RunsLine schema.now txn.now (replies_of progress.old) (replies_of progress.new)
+        (leads_by (P.held pages.old) progress.old) (leads_by (P.held pages.new) progress.new))) }
     ensures space { IfErr result (IfNoSpace (λ no. Becomes (P.held pages.old) (P.held pages.new)
-        (Sees (LacksLine schema.now txn.now progress.old.replies.items no)))) }
-    ensures kept { OnErr result (progress.new.replies.items ≡ progress.old.replies.items) }
+        (Sees (LacksLine schema.now txn.now (replies_of progress.old) no)))) }
+    ensures kept { OnErr result (replies_of progress.new ≡ replies_of progress.old) }
     ensures told { P.told pages.new ≡ P.told pages.old }
 {
     let commands = txn.commands.items();
@@ -57,8 +56,8 @@ where
     Ok(())
 }
 
-/// Executes all lines of a transaction, and gives the replies to its commands. NoSpace comes only where fewer pages
-/// were free than the transaction may take.
+/// Executes all lines of a transaction, and gives the replies to its commands. NoSpace comes only where fewer
+/// pages were free than the transaction may take.
 pub fn run_transaction<P: CellPages>(
     alloc: Global,
     pages: &mut P,

@@ -18,31 +18,62 @@ use std::test::Fail;
 
 const PART: &[u8] = b"type Part\nid int\n";
 
-fn new_part(alloc: Global, to: &[u8], segment: u8) -> Result<Command, OutOfMemory> {
-    Ok(Command::New {
-        to: Text::from_bytes(alloc, to)?,
-        ty: Text::from_bytes(alloc, b"Part")?,
-        segment,
-    })
+/// A command that runs: `new` of a Part in a segment, `set` of a member, and `get`.
+#[derive(Clone, Copy)]
+enum Line<'a> {
+    New(&'a [u8], u8),
+    Set(&'a [u8], &'a [u8], i64),
+    Get(&'a [u8], &'a [u8]),
 }
 
-fn get(alloc: Global, object: &[u8], member: &[u8]) -> Result<Command, OutOfMemory> {
-    Ok(Command::Get {
-        object: Text::from_bytes(alloc, object)?,
-        member: Text::from_bytes(alloc, member)?,
-    })
+/// What it answers.
+#[derive(Clone, Copy, Debug, PartialEq, Eq)]
+enum Answer {
+    Named(u8, u32),
+    Done,
+    Int(i64),
+    Refused(Refusal),
+    Other,
 }
 
-fn set(alloc: Global, object: &[u8], member: &[u8], value: i64) -> Result<Command, OutOfMemory> {
-    Ok(Command::Set {
-        object: Text::from_bytes(alloc, object)?,
-        member: Text::from_bytes(alloc, member)?,
-        value: Operand::Int(value),
-    })
+fn command_of(alloc: Global, line: Line<'_>) -> Result<Command, OutOfMemory> {
+    match line {
+        Line::New(to, segment) => Ok(Command::New {
+            to: Text::from_bytes(alloc, to)?,
+            ty: Text::from_bytes(alloc, b"Part")?,
+            segment,
+        }),
+        Line::Set(object, member, value) => Ok(Command::Set {
+            object: Text::from_bytes(alloc, object)?,
+            member: Text::from_bytes(alloc, member)?,
+            value: Operand::Int(value),
+        }),
+        Line::Get(object, member) => Ok(Command::Get {
+            object: Text::from_bytes(alloc, object)?,
+            member: Text::from_bytes(alloc, member)?,
+        }),
+    }
+}
+
+fn answer_of(reply: &Reply) -> Answer {
+    match reply {
+        Reply::Named(name) => Answer::Named(name.segment, name.serial),
+        Reply::Done => Answer::Done,
+        Reply::Value(Value::Int(value)) => Answer::Int(*value),
+        Reply::Refused(refusal) => Answer::Refused(*refusal),
+        _ => Answer::Other,
+    }
+}
+
+fn answer_at(replies: &Replies, i: usize) -> Answer {
+    match replies.items().get(i) {
+        Some(reply) => answer_of(reply),
+        None => Answer::Other,
+    }
 }
 
 /// What a transaction gives on a fresh database of so many pages. None comes where the schema or a command is
-/// none that runs.
+/// none that runs, and for want of memory.
 fn run_fresh(
     alloc: Global,
     text: &[u8],
@@ -72,189 +103,189 @@ fn run_fresh(
     Some(run_transaction(alloc, &mut pages, &schema, txn))
 }
 
-/// The replies of an update on a fresh database of 20 pages.
-fn replies_to(rt: &impl Abort, alloc: Global, text: &[u8], commands: Vec<Command>) -> Replies {
-    let txn = Txn {
-        update: true,
-        commands: ListOf::from_vec(commands),
+/// A transaction of these lines.
+fn txn_of(alloc: Global, update: bool, lines: &[Line<'_>]) -> Result<Txn, OutOfMemory> {
+    let mut commands = ListOf::new(alloc);
+    for line in lines {
+        commands.push(command_of(alloc, *line)?)?;
+    }
+    Ok(Txn {
+        update,
+        commands,
         aborts: false,
+    })
+}
+
+/// The lines are answered so on a fresh database of 20 pages with the one type Part.
+fn expect_answers(
+    rt: &impl Abort,
+    alloc: Global,
+    update: bool,
+    lines: &[Line<'_>],
+    answers: &[Answer],
+) -> Result<(), OutOfMemory> {
+    let txn = txn_of(alloc, update, lines)?;
+    let Some(Ok(replies)) = run_fresh(alloc, PART, 20, &txn) else {
+        panic!(rt; "the transaction wasn't executed");
     };
-    match run_fresh(alloc, text, 20, &txn) {
-        Some(Ok(replies)) => replies,
-        _ => panic!(rt; "the transaction wasn't executed"),
+    assert_eq!(rt; replies.items().len(), answers.len());
+    for (reply, answer) in replies.items().iter().zip(answers) {
+        assert_eq!(rt; answer_of(reply), *answer);
     }
-}
-
-/// The name in a reply.
-fn named(replies: &Replies, i: usize) -> Option<(u8, u32)> {
-    match replies.items().get(i)? {
-        Reply::Named(name) => Some((name.segment, name.serial)),
-        _ => None,
-    }
-}
-
-/// The int in a reply.
-fn int(replies: &Replies, i: usize) -> Option<i64> {
-    match replies.items().get(i)? {
-        Reply::Value(Value::Int(value)) => Some(*value),
-        _ => None,
-    }
-}
-
-/// The refusal in a reply.
-fn refusal(replies: &Replies, i: usize) -> Option<Refusal> {
-    match replies.items().get(i)? {
-        Reply::Refused(refusal) => Some(*refusal),
-        _ => None,
-    }
-}
-
-fn is_done(replies: &Replies, i: usize) -> bool {
-    match replies.items().get(i) {
-        Some(Reply::Done) => true,
-        _ => false,
-    }
-}
-
-#[test]
-fn a_new_object_is_set_and_read(rt: HostRuntime) -> Result<(), Fail> {
-    let alloc = rt.alloc();
-    let commands = vec![in alloc;
-        new_part(alloc, b"p", 1)?,
-        set(alloc, b"p", b"id", 7)?,
-        get(alloc, b"p", b"id")?,
-    ]?;
-    let replies = replies_to(&rt, alloc, PART, commands);
-    assert_eq!(rt; replies.items().len(), 3);
-    assert_eq!(rt; named(&replies, 0), Some((1, 1)));
-    assert!(rt; is_done(&replies, 1));
-    assert_eq!(rt; int(&replies, 2), Some(7));
     Ok(())
 }
 
 #[test]
-fn no_command_has_no_reply(rt: HostRuntime) -> Result<(), Fail> {
-    let replies = replies_to(&rt, rt.alloc(), PART, Vec::new(rt.alloc()));
-    assert_eq!(rt; replies.items().len(), 0);
+fn a_new_object_is_set_and_read(rt: HostRuntime) -> Result<(), Fail> {
+    let lines = [
+        Line::New(b"p", 1),
+        Line::Set(b"p", b"id", 7),
+        Line::Get(b"p", b"id"),
+    ];
+    let answers = [Answer::Named(1, 1), Answer::Done, Answer::Int(7)];
+    expect_answers(&rt, rt.alloc(), true, &lines, &answers)?;
+    Ok(())
+}
+
+#[test]
+fn no_line_has_no_answer(rt: HostRuntime) -> Result<(), Fail> {
+    expect_answers(&rt, rt.alloc(), true, &[], &[])?;
     Ok(())
 }
 
 #[test]
 fn the_greatest_and_the_least_int_are_kept(rt: HostRuntime) -> Result<(), Fail> {
-    let alloc = rt.alloc();
-    let commands = vec![in alloc;
-        new_part(alloc, b"p", 1)?,
-        set(alloc, b"p", b"id", 9_223_372_036_854_775_807)?,
-        get(alloc, b"p", b"id")?,
-        set(alloc, b"p", b"id", -9_223_372_036_854_775_808)?,
-        get(alloc, b"p", b"id")?,
-    ]?;
-    let replies = replies_to(&rt, alloc, PART, commands);
-    assert_eq!(rt; int(&replies, 2), Some(9_223_372_036_854_775_807));
-    assert!(rt; is_done(&replies, 3));
-    assert_eq!(rt; int(&replies, 4), Some(-9_223_372_036_854_775_808));
+    let lines = [
+        Line::New(b"p", 1),
+        Line::Set(b"p", b"id", 9_223_372_036_854_775_807),
+        Line::Get(b"p", b"id"),
+        Line::Set(b"p", b"id", -9_223_372_036_854_775_808),
+        Line::Get(b"p", b"id"),
+    ];
+    let answers = [
+        Answer::Named(1, 1),
+        Answer::Done,
+        Answer::Int(9_223_372_036_854_775_807),
+        Answer::Done,
+        Answer::Int(-9_223_372_036_854_775_808),
+    ];
+    expect_answers(&rt, rt.alloc(), true, &lines, &answers)?;
     Ok(())
 }
 
 #[test]
 fn a_read_refuses_what_writes(rt: HostRuntime) -> Result<(), Fail> {
-    let alloc = rt.alloc();
-    let txn = Txn {
-        update: false,
-        commands: ListOf::from_vec(vec![in alloc;
-            new_part(alloc, b"p", 1)?,
-            set(alloc, b"p", b"id", 7)?,
-            get(alloc, b"p", b"id")?,
-        ]?),
-        aborts: false,
-    };
-    match run_fresh(alloc, PART, 20, &txn) {
-        Some(Ok(replies)) => {
-            assert_eq!(rt; refusal(&replies, 0), Some(Refusal::ReadOnly));
-            assert_eq!(rt; refusal(&replies, 1), Some(Refusal::ReadOnly));
-            assert_eq!(rt; refusal(&replies, 2), Some(Refusal::NoVariable));
-        }
-        _ => panic!(rt; "the read wasn't executed"),
-    }
+    let lines = [
+        Line::New(b"p", 1),
+        Line::Set(b"p", b"id", 7),
+        Line::Get(b"p", b"id"),
+    ];
+    let answers = [
+        Answer::Refused(Refusal::ReadOnly),
+        Answer::Refused(Refusal::ReadOnly),
+        Answer::Refused(Refusal::NoVariable),
+    ];
+    expect_answers(&rt, rt.alloc(), false, &lines, &answers)?;
     Ok(())
 }
 
 #[test]
 fn a_segment_without_a_page_finds_none(rt: HostRuntime) -> Result<(), Fail> {
-    let alloc = rt.alloc();
-    let txn = Txn {
-        update: true,
-        commands: ListOf::from_vec(vec![in alloc;
-            new_part(alloc, b"p", 1)?,
-            new_part(alloc, b"q", 2)?,
-        ]?),
-        aborts: false,
-    };
+    let lines = [Line::New(b"p", 1), Line::New(b"q", 2)];
+    let txn = txn_of(rt.alloc(), true, &lines)?;
     let full = NoSpace {
         segment: 2,
         need: 16,
     };
-    match run_fresh(alloc, PART, 11, &txn) {
+    match run_fresh(rt.alloc(), PART, 11, &txn) {
         Some(Err(Stop::NoSpace(lack))) => assert_eq!(rt; lack, full),
         _ => panic!(rt; "there was space"),
     }
     Ok(())
 }
 
-/// Two types of so many ints, `Part` and `Lot`.
-fn wide_schema(alloc: Global, members: u32) -> Result<String, Fail> {
+/// Two types of 32 ints, `Part` and `Lot`.
+fn wide_schema(alloc: Global) -> Result<String, Fail> {
     let mut text = String::new(alloc);
     for ty in ["Part", "Lot"] {
         write!(text, "type {ty}\n")?;
-        for number in 0..members {
+        for number in 0..32 {
             write!(text, "m{number} int\n")?;
         }
     }
     Ok(text)
 }
 
+/// Adds a command on a member that goes by a number.
+fn push_numbered(
+    alloc: Global,
+    commands: &mut ListOf<Command>,
+    number: u32,
+    set: bool,
+) -> Result<(), Fail> {
+    let member = format!(in alloc; "m{number}")?;
+    let line = if set {
+        Line::Set(b"p", member.as_bytes(), i64::from(number))
+    } else {
+        Line::Get(b"p", member.as_bytes())
+    };
+    commands.push(command_of(alloc, line)?)?;
+    Ok(())
+}
+
 #[test]
 fn each_of_32_members_is_its_own(rt: HostRuntime) -> Result<(), Fail> {
     let alloc = rt.alloc();
-    let text = wide_schema(alloc, 32)?;
-    let mut commands = vec![in alloc; new_part(alloc, b"p", 1)?]?;
+    let text = wide_schema(alloc)?;
+    let mut txn = txn_of(alloc, true, &[Line::New(b"p", 1)])?;
     for number in 0..32 {
-        let member = format!(in alloc; "m{number}")?;
-        commands.push(set(alloc, b"p", member.as_bytes(), 100 + number)?)?;
+        push_numbered(alloc, &mut txn.commands, number, true)?;
     }
-    for number in 0..32 {
-        let member = format!(in alloc; "m{number}")?;
-        commands.push(get(alloc, b"p", member.as_bytes())?)?;
+    for number in 0..33 {
+        push_numbered(alloc, &mut txn.commands, number, false)?;
     }
-    commands.push(get(alloc, b"p", b"m32")?)?;
-    let replies = replies_to(&rt, alloc, text.as_bytes(), commands);
-    for number in 0..32 {
-        assert_eq!(rt; int(&replies, 33 + number as usize), Some(100 + number));
+    let Some(Ok(replies)) = run_fresh(alloc, text.as_bytes(), 20, &txn) else {
+        panic!(rt; "the transaction wasn't executed");
+    };
+    assert_eq!(rt; replies.items().len(), 66);
+    for number in 0..32u32 {
+        let answer = answer_at(&replies, 33 + number as usize);
+        assert_eq!(rt; answer, Answer::Int(i64::from(number)));
     }
-    assert_eq!(rt; refusal(&replies, 65), Some(Refusal::NoMember));
+    assert_eq!(rt; answer_at(&replies, 65), Answer::Refused(Refusal::NoMember));
+    Ok(())
+}
+
+/// Adds `new` of a Part to a variable that goes by a number, and `set` of its member to that number.
+fn push_object(alloc: Global, commands: &mut ListOf<Command>, number: u32) -> Result<(), Fail> {
+    let variable = format!(in alloc; "v{number}")?;
+    commands.push(command_of(alloc, Line::New(variable.as_bytes(), 1))?)?;
+    let line = Line::Set(variable.as_bytes(), b"id", i64::from(number));
+    commands.push(command_of(alloc, line)?)?;
     Ok(())
 }
 
 #[test]
 fn two_thousand_objects_have_as_many_variables(rt: HostRuntime) -> Result<(), Fail> {
     let alloc = rt.alloc();
-    let mut commands = Vec::new(alloc);
+    let mut txn = txn_of(alloc, true, &[])?;
     for number in 0..2000 {
-        let variable = format!(in alloc; "v{number}")?;
-        commands.push(new_part(alloc, variable.as_bytes(), 1)?)?;
-        commands.push(set(alloc, variable.as_bytes(), b"id", number)?)?;
+        push_object(alloc, &mut txn.commands, number)?;
     }
     for number in 0..2000 {
         let variable = format!(in alloc; "v{number}")?;
-        commands.push(get(alloc, variable.as_bytes(), b"id")?)?;
+        let line = Line::Get(variable.as_bytes(), b"id");
+        txn.commands.push(command_of(alloc, line)?)?;
     }
-    let replies = replies_to(&rt, alloc, PART, commands);
-    for number in 0..2000 {
-        assert_eq!(rt;
-            named(&replies, 2 * number as usize),
-            Some((1, number as u32 + 1))
-        );
-        assert_eq!(rt; int(&replies, 4000 + number as usize), Some(number));
+    let Some(Ok(replies)) = run_fresh(alloc, PART, 20, &txn) else {
+        panic!(rt; "the transaction wasn't executed");
+    };
+    assert_eq!(rt; replies.items().len(), 6000);
+    for number in 0..2000u32 {
+        let name = answer_at(&replies, 2 * number as usize);
+        assert_eq!(rt; name, Answer::Named(1, number + 1));
+        let answer = answer_at(&replies, 4000 + number as usize);
+        assert_eq!(rt; answer, Answer::Int(i64::from(number)));
     }
     Ok(())
 }

@@ -7,8 +7,8 @@ use ostore_base::{OutOfMemory, Text};
 use std::alloc::Global;
 use std::collections::BTreeMap;
 
-/// The variables of a transaction that are bound, each to the resident pointer of an object's row. A look-up and
-/// a binding take time that grows with the logarithm of their number.
+/// The variables of a transaction that are bound, each to the resident pointer of an object's row. A look-up
+/// and a binding take time that grows with the logarithm of their number.
 #[derive(Drop)]
 pub struct Vars {
     bound: BTreeMap<Vec<u8>, u32>,
