@@ -1,5 +1,5 @@
 -- Steps of a holder of pages, and what they make of a command.
-use Rattle.std.proofs.Common.{◌≡◌, ℕ, Bool, true, false, List, refl, sym, ap, subst, ◌∙◌, Ok, Err, Result, IfOk, Option}
+use Rattle.std.proofs.Common.{◌≡◌, ℕ, Bool, true, false, List, refl, sym, ap, subst, ◌∙◌, Ok, Err, Result, IfOk, IfErr, IsErrAnd, Option}
 use Rattle.std.specs.Prelude.{not, MatchResult}
 use Rattle.std.specs.Option.{option_map}
 use Rattle.ostore_base.specs.declared.page.PageImage.{PageImage}
@@ -8,7 +8,7 @@ use Rattle.ostore_segments.proofs.ListSteps.{Becomes-known}
 use Rattle.ostore_segments.specs.declared.placement.NoSpace.{NoSpace}
 use Rattle.ostore_object_ops.specs.declared.stop.Stop.{Stop}
 use Rattle.ostore_object_ops.specs.declared.stop.Stop.TheVariants as stops
-use Rattle.ostore_object_ops.specs.Executes.{IfNoSpace}
+use Rattle.ostore_object_ops.specs.Stops.{IfNoSpace, Stopped, IfOutOfMemory}
 use Rattle.ostore_object_ops.proofs.LeadFacts.{KeepsLeads, leads_kept}
 
 -- an answer that is opened
@@ -72,3 +72,18 @@ pub no_space_map : {F : Type 0} (P Q : NoSpace → Type 0) (stop : Stop F) → (
 no_space_map P Q (stops.NoSpace lack) more p = more lack p
 no_space_map P Q (stops.Fault fault) more p = tt
 no_space_map P Q stops.OutOfMemory more p = tt
+
+pub stopped_map : {F : Type 0} (P Q : F → Type 0) (R S : Type 0) (stop : Stop F) → ((fault : F) → P fault → Q fault) → (R → S) → Stopped stop P R → Stopped stop Q S
+stopped_map P Q R S (stops.Fault fault) more then p = more fault p
+stopped_map P Q R S (stops.NoSpace lack) more then p = then p
+stopped_map P Q R S stops.OutOfMemory more then p = then p
+
+pub out_of_memory_map : {F : Type 0} (P Q : Type 0) (stop : Stop F) → (P → Q) → IfOutOfMemory P stop → IfOutOfMemory Q stop
+out_of_memory_map P Q stops.OutOfMemory more p = more p
+out_of_memory_map P Q (stops.Fault fault) more p = tt
+out_of_memory_map P Q (stops.NoSpace lack) more p = tt
+
+-- a fault that is handed on
+pub handed_on : {T E : Type 0} (Q : E → Type 0) (r : Result T E) (fault : E) → IsErrAnd r (λ it. it ≡ fault) → Q fault → IfErr r Q
+handed_on Q (Ok made) fault none is = absurd none
+handed_on Q (Err it) fault same is = subst Q (sym same) is

@@ -16,8 +16,6 @@ use Rattle.ostore_graph_model.specs.declared.commands.Command.TheVariants as com
 use Rattle.ostore_graph_model.specs.Graph.{Graph}
 use Rattle.ostore_graph_model.specs.Deeds.{Vars}
 use Rattle.ostore_graph_model.specs.Step.{Steps}
-use Rattle.ostore_object_ops.specs.declared.stop.Stop.{Stop}
-use Rattle.ostore_object_ops.specs.declared.stop.Stop.TheVariants as stops
 use Rattle.ostore_object_ops.specs.Means.{Leads, Means}
 
 -- ---- a command is executed
@@ -54,11 +52,3 @@ pub record Executes (schema : Schema) (update : Bool) (command : Command) (reply
       → IsDone schema update command reply after new vars graph
   pub room : (lack : NoSpace) → LacksSpace schema update command lack old → ⊥
   pub taken : TakesAtMost 1 old new
-
--- ---- a run stops
-
--- where it stopped for want of space
-abbrev pub IfNoSpace : {F : Type 0} → (NoSpace → Type 0) → Stop F → Type 0
-IfNoSpace P (stops.NoSpace lack) = P lack
-IfNoSpace P (stops.Fault fault) = Unit {0}
-IfNoSpace P stops.OutOfMemory = Unit {0}

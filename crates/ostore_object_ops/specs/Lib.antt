@@ -5,6 +5,7 @@ pub mod Means
 pub mod Suits
 pub mod Progresses
 pub mod Executes
+pub mod Stops
 pub mod Lines
 pub mod LawsOfRuns
 pub mod inside

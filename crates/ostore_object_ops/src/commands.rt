@@ -1,11 +1,13 @@
 //! One command.
 
-ghost use Rattle.std.specs.Prelude.{◌≡◌, IfOk, IfErr, OnErr};
+ghost use Rattle.std.specs.Prelude.{◌≡◌, IfOk, OnOk, IfErr, OnErr};
 ghost use Rattle.ostore_segments.specs.Holdings.{Stands, Becomes, Sees};
 ghost use Rattle.ostore_object_ops.specs.Bound.{leads_of, SameBound};
 ghost use Rattle.ostore_object_ops.specs.Means.{HasMeaning};
 ghost use Rattle.ostore_object_ops.specs.Suits.{Suits, MayUpdate, IsBuilt};
-ghost use Rattle.ostore_object_ops.specs.Executes.{Executes, IfNoSpace, LacksSpace};
+ghost use Rattle.ostore_graph_model.specs.Valid.{IsValid};
+ghost use Rattle.ostore_object_ops.specs.Executes.{Executes, LacksSpace};
+ghost use Rattle.ostore_object_ops.specs.Stops.{IfNoSpace, IfOutOfMemory, Stopped};
 
 use crate::making::run_new;
 use crate::members::{run_get, run_set_int};
@@ -35,6 +37,8 @@ fn run_set<P: CellPages>(
         IfOk result (λ reply. Becomes (P.held pages.old) (P.held pages.new)
         (Executes schema.now update command reply
         (leads_of (P.held pages.old) vars.now) (leads_of (P.held pages.new) vars.now))) }
+    ensures passes { OnOk result (P.passes pages.old pages.new) }
+    ensures fails { IfErr result (λ fault. P.fails pages.old fault pages.new) }
     ensures told { P.told pages.new ≡ P.told pages.old }
 {
     match value {
@@ -52,8 +56,9 @@ fn run_set<P: CellPages>(
 /// Runs one command of a transaction, which is one of those that run. A refusal is a reply, and changes
 /// nothing. Each answer holds of every list for which the holder may stand: the reply is the command's on the
 /// graph that the list stands for, and the list that is made of it is valid and stands for the graph that the
-/// command leaves. NoSpace comes exactly where `new` finds no place for its object; then the pages stay. After
-/// a fault or want of memory nothing is told of the pages. A command that isn't executed binds no variable.
+/// command leaves. NoSpace comes exactly where `new` finds no place for its object; then the pages stay. A
+/// fault is one that the holder answered, and what holds then the holder says. After want of memory the pages are
+/// valid. A command that isn't executed binds no variable.
 pub fn run_command<P: CellPages>(
     pages: &mut P,
     schema: &Schema,
@@ -74,6 +79,11 @@ where
     ensures space { IfErr result (IfNoSpace (λ no. Becomes (P.held pages.old) (P.held pages.new)
         (Sees (LacksSpace schema.now update command.now no)))) }
     ensures vars { OnErr result (SameBound vars.old vars.new) }
+    ensures passes { OnOk result (P.passes pages.old pages.new) }
+    ensures stops { IfErr result (λ stop. Stopped stop
+        (λ fault. P.fails pages.old fault pages.new) (P.passes pages.old pages.new)) }
+    ensures memory { IfErr result (IfOutOfMemory (Becomes (P.held pages.old) (P.held pages.new)
+        (λ old new. IsValid schema.now new))) }
     ensures told { P.told pages.new ≡ P.told pages.old }
 {
     match command {

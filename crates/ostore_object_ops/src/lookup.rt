@@ -1,6 +1,6 @@
 //! The member of an object that the names of a command mean.
 
-ghost use Rattle.std.specs.Prelude.{◌≡◌, ◌%◌, false, IfOk, MatchResult};
+ghost use Rattle.std.specs.Prelude.{◌≡◌, ◌%◌, false, IfOk, OnOk, IfErr, MatchResult};
 ghost use Rattle.ostore_base.specs.declared.page.TheConstants.{PAGE_SIZE};
 ghost use Rattle.ostore_segments.specs.Holdings.{Stands, Becomes, Sees};
 ghost use Rattle.ostore_object_ops.specs.Bound.{leads_of};
@@ -51,6 +51,8 @@ pub(crate) fn find_place<P: CellPages>(
         (λ refusal. RefusesMember schema.now leads variable.now member.now refusal list)))) }
     ensures view { IfOk result (λ found.
         IfOk found (λ found. (P.held pages.new).in_view found.page.0)) }
+    ensures passes { OnOk result (P.passes pages.old pages.new) }
+    ensures fails { IfErr result (λ fault. P.fails pages.old fault pages.new) }
     ensures told { P.told pages.new ≡ P.told pages.old }
 {
     let Some(pointer) = vars.get(variable) else {

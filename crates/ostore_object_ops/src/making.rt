@@ -1,6 +1,6 @@
 //! `new`.
 
-ghost use Rattle.std.specs.Prelude.{◌≡◌, ◌<◌, ◌+◌, true, IfOk, IfErr, OnErr, MatchResult, ⊤};
+ghost use Rattle.std.specs.Prelude.{◌≡◌, ◌<◌, ◌+◌, true, IfOk, OnOk, IfErr, OnErr, MatchResult, ⊤};
 ghost use Rattle.ostore_base.specs.declared.page.TheConstants.{PAGE_SIZE};
 ghost use Rattle.ostore_graph_model.specs.declared.commands.Command.TheVariants as commands;
 ghost use Rattle.ostore_page_tags.specs.declared.layout.TheConstants.{ROW_BYTES};
@@ -15,7 +15,9 @@ ghost use Rattle.ostore_segments.specs.Making.{Makes};
 ghost use Rattle.ostore_object_ops.specs.Bound.{leads_of, SameBound};
 ghost use Rattle.ostore_object_ops.specs.Means.{HasMeaning};
 ghost use Rattle.ostore_object_ops.specs.Suits.{Suits};
-ghost use Rattle.ostore_object_ops.specs.Executes.{Executes, IfNoSpace, LacksSpace};
+ghost use Rattle.ostore_graph_model.specs.Valid.{IsValid};
+ghost use Rattle.ostore_object_ops.specs.Executes.{Executes, LacksSpace};
+ghost use Rattle.ostore_object_ops.specs.Stops.{IfNoSpace, IfOutOfMemory, Stopped};
 
 use crate::stop::Stop;
 use crate::vars::Vars;
@@ -49,6 +51,8 @@ fn make_cell<P: CellPages>(
         (λ cell. (cell.page.0 < most_pages) × (cell.offset < PAGE_SIZE))) }
     ensures view { IfOk result (λ made. IfOk made
         (λ cell. (P.held pages.new).in_view cell.page.0)) }
+    ensures passes { OnOk result (P.passes pages.old pages.new) }
+    ensures fails { IfErr result (λ fault. P.fails pages.old fault pages.new) }
     ensures told { P.told pages.new ≡ P.told pages.old }
 {
     let cell = match make(pages, segment, code_size(schema, number.0), number.0)? {
@@ -83,6 +87,11 @@ where
         IfErr result (IfNoSpace (λ no. Becomes (P.held pages.old) (P.held pages.new)
         (Sees (LacksSpace schema.now true command no)))) }
     ensures vars { OnErr result (SameBound vars.old vars.new) }
+    ensures passes { OnOk result (P.passes pages.old pages.new) }
+    ensures stops { IfErr result (λ stop. Stopped stop
+        (λ fault. P.fails pages.old fault pages.new) (P.passes pages.old pages.new)) }
+    ensures memory { IfErr result (IfOutOfMemory (Becomes (P.held pages.old) (P.held pages.new)
+        (λ old new. IsValid schema.now new))) }
     ensures told { P.told pages.new ≡ P.told pages.old }
 {
     let Some(number) = schema.type_named(ty.bytes()) else {

@@ -1,6 +1,6 @@
 //! `get`, and `set` to an int.
 
-ghost use Rattle.std.specs.Prelude.{◌≡◌, ℕ, List, Bool, false, true, IfOk, OnOk};
+ghost use Rattle.std.specs.Prelude.{◌≡◌, ℕ, List, Bool, false, true, IfOk, OnOk, IfErr};
 ghost use Rattle.ostore_base.specs.declared.page.PageImage.{PageImage};
 ghost use Rattle.ostore_graph_model.specs.declared.commands.Command.TheVariants as commands;
 ghost use Rattle.ostore_graph_model.specs.declared.commands.Operand.TheVariants as operands;
@@ -43,6 +43,8 @@ fn store_int<P: CellPages>(
     requires stands { Stands (P.held pages.old) (HasInt schema.now found) }
     ensures lists { OnOk result (Becomes (P.held pages.old) (P.held pages.new)
         (λ old new. StoresInt schema.now found value old new)) }
+    ensures passes { OnOk result (P.passes pages.old pages.new) }
+    ensures fails { IfErr result (λ fault. P.fails pages.old fault pages.new) }
     ensures told { P.told pages.new ≡ P.told pages.old }
 {
     pages.edit_cell(
@@ -69,6 +71,8 @@ pub(crate) fn run_get<P: CellPages>(
         Becomes (P.held pages.old) (P.held pages.new)
         (Executes schema.now update (commands.Get object.now member.now) reply
         (leads_of (P.held pages.old) vars.now) (leads_of (P.held pages.new) vars.now))) }
+    ensures passes { OnOk result (P.passes pages.old pages.new) }
+    ensures fails { IfErr result (λ fault. P.fails pages.old fault pages.new) }
     ensures told { P.told pages.new ≡ P.told pages.old }
 {
     let found = match find_place(pages, schema, vars, object, member)? {
@@ -95,6 +99,8 @@ pub(crate) fn run_set_int<P: CellPages>(
         IfOk result (λ reply. Becomes (P.held pages.old) (P.held pages.new)
         (Executes schema.now true command reply
         (leads_of (P.held pages.old) vars.now) (leads_of (P.held pages.new) vars.now))) }
+    ensures passes { OnOk result (P.passes pages.old pages.new) }
+    ensures fails { IfErr result (λ fault. P.fails pages.old fault pages.new) }
     ensures told { P.told pages.new ≡ P.told pages.old }
 {
     let found = match find_place(pages, schema, vars, object, member)? {

@@ -7,7 +7,7 @@ ghost use Rattle.ostore_graph_model.specs.Valid.{IsValid};
 ghost use Rattle.ostore_object_ops.specs.Progresses.{replies_of, leads_by};
 ghost use Rattle.ostore_object_ops.specs.Means.{HasMeaning};
 ghost use Rattle.ostore_object_ops.specs.Suits.{Suits, MayUpdate, IsBuilt};
-ghost use Rattle.ostore_object_ops.specs.Executes.{IfNoSpace};
+ghost use Rattle.ostore_object_ops.specs.Stops.{IfNoSpace, IfOutOfMemory, Stopped};
 ghost use Rattle.ostore_object_ops.specs.Lines.{RunsLine, LacksLine, Transacts, LacksGrowth};
 
 use crate::commands::run_command;
@@ -40,6 +40,11 @@ where
     ensures space { IfErr result (IfNoSpace (λ no. Becomes (P.held pages.old) (P.held pages.new)
         (Sees (LacksLine schema.now txn.now (replies_of progress.old) no)))) }
     ensures kept { OnErr result (replies_of progress.new ≡ replies_of progress.old) }
+    ensures passes { OnOk result (P.passes pages.old pages.new) }
+    ensures stops { IfErr result (λ stop. Stopped stop
+        (λ fault. P.fails pages.old fault pages.new) (P.passes pages.old pages.new)) }
+    ensures memory { IfErr result (IfOutOfMemory (Becomes (P.held pages.old) (P.held pages.new)
+        (λ old new. IsValid schema.now new))) }
     ensures told { P.told pages.new ≡ P.told pages.old }
 {
     let commands = txn.commands.items();
@@ -74,6 +79,11 @@ where
         (Transacts schema.now txn.now replies)) }
     ensures space { IfErr result (IfNoSpace (λ no. Becomes (P.held pages.old) (P.held pages.new)
         (λ old new. LacksGrowth txn.now old))) }
+    ensures passes { OnOk result (P.passes pages.old pages.new) }
+    ensures stops { IfErr result (λ stop. Stopped stop
+        (λ fault. P.fails pages.old fault pages.new) (P.passes pages.old pages.new)) }
+    ensures memory { IfErr result (IfOutOfMemory (Becomes (P.held pages.old) (P.held pages.new)
+        (λ old new. IsValid schema.now new))) }
     ensures told { P.told pages.new ≡ P.told pages.old }
 {
     let mut progress = Progress::new(alloc);

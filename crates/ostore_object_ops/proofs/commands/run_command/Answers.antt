@@ -21,3 +21,6 @@ returns-in-Ok-clause-lists g c =
     let before = leads_of (g.P.Pages.held c.args.pages.now) c.args.vars.now in
     let after = leads_of (g.P.Pages.held c.run_get.new.pages) c.args.vars.now in
     subst (λ (command : Command). Becomes (g.P.Pages.held c.args.pages.now) (g.P.Pages.held c.run_get.new.pages) (Executes c.args.schema.now c.args.update command c.in-Ok.reply before after)) (sym c.in-Get.is) (c.in-Ok.ensures.lists c.args.update)
+
+pub returns-else-update-clause-passes : goal.returns-else-update-clause-passes
+returns-else-update-clause-passes g c = g.met.P.Pages.passes_at_once c.args.pages.now

@@ -14,3 +14,6 @@ returns-else-update-clause-lists g c =
     Becomes-stay c.requires.stands
     (λ list known. read_only c.args.schema.now c.args.update (commands.Set c.args.object.now c.args.member.now c.args.value.now) leads leads list (leads_kept _ _ (bound_by c.args.vars.now) (homes_stay _)) c.if-update.false
     (λ vars graph. ap (λ (v : Operand). step c.args.schema.now false vars graph (commands.Set c.args.object.now c.args.member.now v)) c.in-Int.is))
+
+pub returns-else-update-clause-passes : goal.returns-else-update-clause-passes
+returns-else-update-clause-passes g c = g.met.P.Pages.passes_at_once c.args.pages.now

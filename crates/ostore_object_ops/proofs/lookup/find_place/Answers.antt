@@ -103,3 +103,6 @@ returns-clause-lists g c =
     (ap (member_named c.args.schema.now (record { 0 = c.in-Some-row_at.row.code })) (sym c.bytes.ensures) ∙ sym c.in-Some-member_named.ensures.named)
     (sym c.in-Some-place_of.ensures) def.1)
     c.in_ok-enter.ensures.lists
+
+pub returns-in_default-clause-passes : goal.returns-in_default-clause-passes
+returns-in_default-clause-passes g c = g.met.P.Pages.passes_at_once c.args.pages.now

@@ -1,4 +1,4 @@
-use Rattle.std.proofs.Common.{◌≡◌, ◌+◌, ◌∙◌, ◌<◌, ℕ, List, ap, sym, subst, arith, Ok, Err, inl, Some, length}
+use Rattle.std.proofs.Common.{rules, ◌≡◌, ◌+◌, ◌∙◌, ◌<◌, ℕ, List, ap, sym, subst, arith, Ok, Err, inl, Some, length}
 use Rattle.ostore_base.specs.declared.page.PageImage.{PageImage}
 use Rattle.ostore_schema_layout.specs.Cells.{code_size}
 use Rattle.ostore_segments.specs.declared.objects.NewCell.{NewCell}
@@ -54,3 +54,11 @@ returns-clause-place g c =
     let within = made_within old new c.args.segment c.in-Ok.cell.page.0 c.code_size.result c.args.number.0 c.in-Ok.cell.serial c.in-Ok.cell.offset fine asked.most c.requires.segment makes in
     record { page_low = within.page_low; page_below = within.page_below; page_there = within.page_there; offset_below = within.offset_below }) opened) in
     made
+
+pub returns-in_err-enter-clause-fails : goal.returns-in_err-enter-clause-fails
+returns-in_err-enter-clause-fails g c =
+    let failed = g.met.P.Pages.fails_later _ _ _ _ c.in_ok-cell.ensures.passes c.in_err-enter.ensures.fails in
+    search rules
+
+pub returns-clause-passes : goal.returns-clause-passes
+returns-clause-passes g c = g.met.P.Pages.passes_on _ _ _ c.in_ok-cell.ensures.passes c.in_ok-enter.ensures.passes

@@ -77,3 +77,33 @@ returns-clause-lists g c =
     c.in-Ok-made.cell.page.0 c.in-Ok-made.cell.offset c.in-Ok-made.cell.serial c.in-Some.number c.requires.suits.ints is named c.requires.segment
     (λ spent. true≢false (sym (seen.1 spent) ∙ c.if-spent.false)) known.means.valid.pages_kept.allocated makes homes c.in-Ok-bind.ensures.bound c.pointer_to.ensures)
     opened
+
+pub returns-in_default-clause-passes : goal.returns-in_default-clause-passes
+returns-in_default-clause-passes g c = g.met.P.Pages.passes_at_once c.args.pages.now
+
+pub returns-in-Err-make_cell-clause-stops : goal.returns-in-Err-make_cell-clause-stops
+returns-in-Err-make_cell-clause-stops g c = g.met.P.Pages.fails_later _ _ _ _ c.in-Ok.ensures.passes c.in-Err-make_cell.ensures.fails
+
+pub returns-in-Err-made-clause-stops : goal.returns-in-Err-made-clause-stops
+returns-in-Err-made-clause-stops g c = g.met.P.Pages.passes_on _ _ _ c.in-Ok.ensures.passes c.in-Ok-make_cell.ensures.passes
+
+pub returns-in-Err-bind-clause-stops : goal.returns-in-Err-bind-clause-stops
+returns-in-Err-bind-clause-stops g c = g.met.P.Pages.passes_on _ _ _ c.in-Ok.ensures.passes c.in-Ok-make_cell.ensures.passes
+
+pub returns-clause-passes : goal.returns-clause-passes
+returns-clause-passes g c = g.met.P.Pages.passes_on _ _ _ c.in-Ok.ensures.passes c.in-Ok-make_cell.ensures.passes
+
+-- the variable isn't bound, and the pages are as they would be if it were
+pub returns-in-Err-bind-clause-memory : goal.returns-in-Err-bind-clause-memory
+returns-in-Err-bind-clause-memory g c =
+    let named : type_named c.args.schema.now c.args.ty.now ≡ Some c.in-Some.number = ap (type_named c.args.schema.now) (sym c.bytes.ensures) ∙ sym c.in-Some.ensures.named in
+    let is = new_type c.args.schema.now c.in-Some.number c.requires.suits.lawful c.in-Some.ensures.there in
+    let opened = opened_change (λ (cell : NewCell) old new. Makes old new c.args.segment cell.page.0 (code_size c.args.schema.now c.in-Some.number.0) c.in-Some.number.0 cell.serial cell.offset) (λ (lack : NoSpace) old new. FindsNone old new c.args.segment (code_size c.args.schema.now c.in-Some.number.0 + 8)) c.in-Ok-make_cell.made (Ok c.in-Ok-made.cell) c.in-Ok-made.is c.in-Ok-make_cell.ensures.lists in
+    let homes = homes_then _ _ _ c.in-Ok.ensures.lists.homes c.in-Ok-make_cell.ensures.lists.homes in
+    Becomes-changed c.requires.stands c.in-Ok.ensures.lists
+    (λ old new known seen makes.
+    let done = new_done c.args.schema.now (g.P.Pages.held c.args.pages.now).home (g.P.Pages.held c.make_cell.new.pages).home (bound_by c.args.vars.now) (with_bound (bound_by c.args.vars.now) c.args.to.now c.pointer_to.result) c.args.to.now c.args.ty.now c.args.segment c.pointer_to.result old new
+    c.in-Ok-made.cell.page.0 c.in-Ok-made.cell.offset c.in-Ok-made.cell.serial c.in-Some.number c.requires.suits.ints is named c.requires.segment
+    (λ spent. true≢false (sym (seen.1 spent) ∙ c.if-spent.false)) known.means.valid.pages_kept.allocated makes homes (λ variable. refl) c.pointer_to.ensures in
+    (done.does known.vars known.graph known.means).means.valid)
+    opened

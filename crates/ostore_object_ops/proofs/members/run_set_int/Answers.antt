@@ -1,4 +1,4 @@
-use Rattle.std.proofs.Common.{◌≡◌, ◌∙◌, ℤ, List, ap, sym, subst, arith, Ok, Err, to_z, of_z}
+use Rattle.std.proofs.Common.{rules, ◌≡◌, ◌∙◌, ℤ, List, ap, sym, subst, arith, Ok, Err, to_z, of_z}
 use Rattle.std.specs.Int.{w64}
 use Rattle.std.proofs.lemmas.Int.{to_z-of_z}
 use Rattle.ostore_graph_model.specs.declared.refusal.Refusal.{Refusal}
@@ -49,3 +49,11 @@ store_int-requires-clause-suits g c = subst (Suits c.args.schema.now) (sym c.in_
 
 pub store_int-requires-clause-may : goal.store_int-requires-clause-may
 store_int-requires-clause-may g c = ap (λ (t : PagesTold). t.may_edit) c.in_ok-found.ensures.told ∙ c.requires.may
+
+pub returns-in_err-store_int-clause-fails : goal.returns-in_err-store_int-clause-fails
+returns-in_err-store_int-clause-fails g c =
+    let failed = g.met.P.Pages.fails_later _ _ _ _ c.in_ok-found.ensures.passes c.in_err-store_int.ensures.fails in
+    search rules
+
+pub returns-clause-passes : goal.returns-clause-passes
+returns-clause-passes g c = g.met.P.Pages.passes_on _ _ _ c.in_ok-found.ensures.passes c.in_ok-store_int.ensures.passes

@@ -1,7 +1,7 @@
 use Rattle.std.proofs.Common.{◌≡◌, ◌<◌, ℕ, List, length, ap, sym, subst, arith, Some, ◌∙◌}
 use Rattle.std.specs.List.{slice_get}
 use Rattle.ostore_graph_model.specs.declared.commands.Command.{Command}
-use Rattle.ostore_segments.proofs.ListSteps.{Becomes-weaker}
+use Rattle.ostore_segments.proofs.ListSteps.{Becomes-weaker, Becomes-known}
 use Rattle.ostore_object_ops.proofs.RunLaws.{item_at}
 use Rattle.ostore_object_ops.proofs.StepFacts.{no_space_map}
 use Rattle.ostore_object_ops.proofs.run.run_line.Goals as goal
@@ -25,3 +25,7 @@ returns-clause-lists g c =
     subst (λ (k : ℕ). slice_get c.args.txn.now.commands k ≡ Some c.index-commands-place.result) at
     (ap (λ (l : List Command). slice_get l c.len-place.result) (sym c.items-commands.ensures) ∙ item_at c.items-commands.result.now c.len-place.result c.index-commands-place.result (omega arith) c.index-commands-place.is) in
     Becomes-weaker (λ old new known executes. record { command = c.index-commands-place.result; next = there; reply = c.in-Ok.reply; last = c.in-Ok-push.ensures.items; executes = executes }) c.in-Ok.ensures.lists
+
+pub returns-in-Err-push-clause-memory : goal.returns-in-Err-push-clause-memory
+returns-in-Err-push-clause-memory g c =
+    Becomes-known c.requires.stands (λ old new known executes. (executes.does known.vars known.graph known.means).means.valid) c.in-Ok.ensures.lists

@@ -9,7 +9,7 @@ use Rattle.ostore_object_ops.specs.Bound.{bound_by, leads_of}
 use Rattle.ostore_object_ops.specs.Suits.{Suits, MayUpdate}
 use Rattle.ostore_object_ops.specs.Lines.{LacksLine, HasRun, Transacts, LacksGrowth}
 use Rattle.ostore_object_ops.proofs.RunLaws.{first_lines, next_lines, meanings, last_lines, one_more, lacks_growth}
-use Rattle.ostore_object_ops.proofs.StepFacts.{Becomes-stay, no_space_map}
+use Rattle.ostore_object_ops.proofs.StepFacts.{Becomes-stay, no_space_map, stopped_map, out_of_memory_map}
 use Rattle.ostore_object_ops.proofs.run.run_transaction.Goals as goal
 
 pub loop-line-init : goal.loop-line-init
@@ -19,6 +19,7 @@ loop-line-init g c = record {
       (λ list valid. subst (λ (replies : List Reply). HasRun c.args.schema.now c.args.txn.now replies (leads_of (g.P.Pages.held c.args.pages.now) c.new-progress.result.vars) list list) (sym c.new-progress.ensures.replies)
       (first_lines c.args.schema.now c.args.txn.now (leads_of (g.P.Pages.held c.args.pages.now) c.new-progress.result.vars) list valid (λ variable. ap (option_map (g.P.Pages.held c.args.pages.now).home) (c.new-progress.ensures.vars variable))));
   counted = ap (λ (l : List Reply). length l) c.new-progress.ensures.replies;
+  passes = g.met.P.Pages.passes_at_once c.args.pages.now;
   told = λ i. g.P.Pages.told c.args.pages.now;
 }
 
@@ -48,6 +49,7 @@ loop-line-preserved g c = record {
       (Becomes-stands (Becomes-stands c.requires.stands (λ old new valid run. meanings c.args.schema.now c.args.txn.now _ _ old new run) c.loop-line.invariant.run) (λ old new known line. one_more _ _ line.reply line.last) c.in-Ok.ensures.lists) in
       let counted = c.loop-line.invariant.counted in
       omega arith;
+  passes = g.met.P.Pages.passes_on _ _ _ c.loop-line.invariant.passes c.in-Ok.ensures.passes;
   told = c.in-Ok.ensures.told ∙ c.loop-line.invariant.told;
 }
 
@@ -67,3 +69,16 @@ returns-in-Err-clause-space g c =
     (λ lack lacks.
     Becomes-weaker (λ old new there both. lacks_growth c.args.schema.now c.args.txn.now _ _ old both.middle lack both.first both.second.1) (Becomes-then c.loop-line.invariant.run lacks))
     c.in-Err.ensures.space
+
+pub returns-in-Err-clause-stops : goal.returns-in-Err-clause-stops
+returns-in-Err-clause-stops g c =
+    stopped_map _ _ _ _ c.in-Err.stop
+    (λ fault failed. g.met.P.Pages.fails_later _ _ _ fault c.loop-line.invariant.passes failed)
+    (λ passed. g.met.P.Pages.passes_on _ _ _ c.loop-line.invariant.passes passed)
+    c.in-Err.ensures.stops
+
+pub returns-in-Err-clause-memory : goal.returns-in-Err-clause-memory
+returns-in-Err-clause-memory g c =
+    out_of_memory_map _ _ c.in-Err.stop
+    (λ valid. Becomes-weaker (λ old new there both. both.second) (Becomes-then c.loop-line.invariant.run valid))
+    c.in-Err.ensures.memory

@@ -9,5 +9,6 @@ abbrev pub invariant-loop-line : goal.invariant-loop-line
 invariant-loop-line g l = record {
   run : Becomes (g.P.Pages.held l.fn.pages) (g.P.Pages.held l.pages) (HasRun l.schema l.txn l.progress.replies.items (leads_of (g.P.Pages.held l.pages) l.progress.vars));
   counted : length l.progress.replies.items ≡ l._line;
+  passes : g.P.Pages.passes l.fn.pages l.pages;
   told : g.P.Pages.told l.pages ≡ g.P.Pages.told l.fn.pages;
 }
