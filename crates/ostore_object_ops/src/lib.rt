@@ -21,4 +21,6 @@ pub use suits::{are_built, is_built, is_of_ints};
 pub use vars::Vars;
 
 #[cfg(test)]
+mod claims;
+#[cfg(test)]
 mod tests;

@@ -20,7 +20,7 @@ const PART: &[u8] = b"type Part\nid int\n";
 
 /// A command that runs: `new` of a Part in a segment, `set` of a member, and `get`.
 #[derive(Clone, Copy)]
-enum Line<'a> {
+pub(crate) enum Line<'a> {
     New(&'a [u8], u8),
     Set(&'a [u8], &'a [u8], i64),
     Get(&'a [u8], &'a [u8]),
@@ -36,7 +36,7 @@ enum Answer {
     Other,
 }
 
-fn command_of(alloc: Global, line: Line<'_>) -> Result<Command, OutOfMemory> {
+pub(crate) fn command_of(alloc: Global, line: Line<'_>) -> Result<Command, OutOfMemory> {
     match line {
         Line::New(to, segment) => Ok(Command::New {
             to: Text::from_bytes(alloc, to)?,
@@ -205,7 +205,7 @@ fn a_segment_without_a_page_finds_none(rt: HostRuntime) -> Result<(), Fail> {
 }
 
 /// Two types of 32 ints, `Part` and `Lot`.
-fn wide_schema(alloc: Global) -> Result<String, Fail> {
+pub(crate) fn wide_schema(alloc: Global) -> Result<String, Fail> {
     let mut text = String::new(alloc);
     for ty in ["Part", "Lot"] {
         write!(text, "type {ty}\n")?;
