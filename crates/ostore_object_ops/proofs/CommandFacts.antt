@@ -54,8 +54,8 @@ use Rattle.ostore_object_ops.proofs.LeadFacts.{KeepsLeads, KeepsRows, name_kept,
 
 -- ---- commands that leave the pages
 
-pub takes_none : (list : List PageImage) → TakesAtMost 1 list list
-takes_none list free has = (free, has, omega arith)
+pub takes_none : (n : ℕ) (list : List PageImage) → TakesAtMost n list list
+takes_none n list free has = (free, has, omega arith)
 
 pub stays : (schema : Schema) (update : Bool) (command : Command) (reply : Reply) (before after : Leads) (list : List PageImage) → KeepsLeads before after
     → ((vars : Vars) (graph : Graph) → Means schema list before vars graph → Steps schema update vars graph command reply vars graph)
@@ -64,7 +64,10 @@ pub stays : (schema : Schema) (update : Bool) (command : Command) (reply : Reply
 stays schema update command reply before after list keeps steps room = record {
   does = λ vars graph means. record { then = vars; next = graph; steps = steps vars graph means; means = means_kept schema list before after vars graph keeps means };
   room = room;
-  taken = takes_none list;
+  taken = takes_none 1 list;
+  only_new = λ other. takes_none 0 list;
+  read = λ object member is. refl;
+  refused = λ refusal is. refl;
 }
 
 -- `get` and `set` want no space
@@ -164,8 +167,17 @@ module _ (schema : Schema) (before after : Leads) (object member : List ℕ) (va
         };
     room = set_room schema true object member value old;
     taken = λ free has. (free, stores.taken free has, omega arith);
+    only_new = λ other free has. (free, stores.taken free has, omega arith);
+    read = λ other_object other_member is. absurd (never_get other_object other_member is);
+    refused = λ refusal is. absurd (never_refused refusal is);
   }
     where
+      never_get : (other_object other_member : List ℕ) → commands.Set object member (operands.Int value) ≡ commands.Get other_object other_member → ⊥
+      never_get other_object other_member is = cc
+
+      never_refused : (refusal : Refusal) → replies.Done ≡ replies.Refused refusal → ⊥
+      never_refused refusal is = cc
+
       writes : WritesInt schema old new (address_of found) found.number.0 is.cell found.place value
       writes =
           subst (λ (c : PlacedCell). WritesInt schema old new (address_of found) found.number.0 c found.place value) (Rattle.std.proofs.lemmas.Option.same_Some stores.cell is.cell (sym stores.writes.has.there ∙ is.has.there)) stores.writes

@@ -35,6 +35,7 @@ use Rattle.ostore_segments.proofs.MakeLaws.{placed_is, unspent}
 use Rattle.ostore_segments.proofs.RoomLaws.{full_or_placed}
 use Rattle.ostore_graph_model.specs.declared.values.Name.{Name}
 use Rattle.ostore_graph_model.specs.declared.values.Reply.TheVariants as replies
+use Rattle.ostore_graph_model.specs.declared.refusal.Refusal.{Refusal}
 use Rattle.ostore_graph_model.specs.declared.refusal.Refusal.TheVariants.{WrongType, SerialsSpent}
 use Rattle.ostore_graph_model.specs.declared.commands.Command.TheVariants as commands
 use Rattle.ostore_graph_model.specs.Kinds.{no_type}
@@ -357,7 +358,16 @@ module _ (schema : Schema) (home later : ℕ → Option ℕ) (bound now : List �
     taken = λ free has.
         let taken = place_takes old makes.middle segment (code_size schema number.0 + 8) page makes.placed free has in
         (taken.0, makes.made.added.lists.free taken.0 (makes.made.drawn.lists.free taken.0 taken.1), taken.2);
+    only_new = λ other. absurd (other to ty segment refl);
+    read = λ object member is. absurd (never_get object member is);
+    refused = λ refusal is. absurd (never_refused refusal is);
   }
+    where
+      never_get : (object member : List ℕ) → commands.New to ty segment ≡ commands.Get object member → ⊥
+      never_get object member is = cc
+
+      never_refused : (refusal : Refusal) → replies.Named (record { segment = segment; serial = serial }) ≡ replies.Refused refusal → ⊥
+      never_refused refusal is = cc
 
 -- ---- no place for it
 

@@ -11,6 +11,8 @@ use Rattle.ostore_segments.specs.declared.placement.NoSpace.{NoSpace}
 use Rattle.ostore_segments.specs.Serials.{AreSpent}
 use Rattle.ostore_segments.specs.Room.{IsFull}
 use Rattle.ostore_graph_model.specs.declared.values.Reply.{Reply}
+use Rattle.ostore_graph_model.specs.declared.values.Reply.TheVariants as replies
+use Rattle.ostore_graph_model.specs.declared.refusal.Refusal.{Refusal}
 use Rattle.ostore_graph_model.specs.declared.commands.Command.{Command}
 use Rattle.ostore_graph_model.specs.declared.commands.Command.TheVariants as commands
 use Rattle.ostore_graph_model.specs.Graph.{Graph}
@@ -46,9 +48,13 @@ pub record LacksSpace (schema : Schema) (update : Bool) (command : Command) (lac
   pub full : IsFull pages lack.segment lack.need
 
 -- A command was executed with this reply: the variables led to these addresses before and lead to those after, and
--- one list of pages became another. It lacked no space, and took one page at most.
+-- one list of pages became another. It lacked no space. Only `new` took a page, and one at most; `get` left all pages, and
+-- so did each command that was refused.
 pub record Executes (schema : Schema) (update : Bool) (command : Command) (reply : Reply) (before after : Leads) (old new : List PageImage) : Type 0 where
   pub does : (vars : Vars) (graph : Graph) → Means schema old before vars graph
       → IsDone schema update command reply after new vars graph
   pub room : (lack : NoSpace) → LacksSpace schema update command lack old → ⊥
   pub taken : TakesAtMost 1 old new
+  pub only_new : ((to ty : List ℕ) (segment : ℕ) → command ≡ commands.New to ty segment → ⊥) → TakesAtMost 0 old new
+  pub read : (object member : List ℕ) → command ≡ commands.Get object member → new ≡ old
+  pub refused : (refusal : Refusal) → reply ≡ replies.Refused refusal → new ≡ old
