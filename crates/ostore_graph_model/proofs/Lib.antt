@@ -25,6 +25,7 @@ pub mod GraphExists
 pub mod GraphLaws
 pub mod HeapLaws
 pub mod IndexLaws
+pub mod UndeclaredLaw
 pub mod ItemLaws
 pub mod ListLaws
 pub mod MemberEdits

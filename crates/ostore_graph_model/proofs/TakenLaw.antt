@@ -163,7 +163,7 @@ schema_text_same : (old new : List PageImage) → ((p : ℕ) → 1 ≤ p → p �
 schema_text_same old new fixed = ap (λ (bytes : List ℕ). take (number_at 4 0 bytes) (drop 4 bytes)) (schema_bytes_same old new fixed)
 
 -- the law: the same graph, and valid pages
-taken_reads : (old new : List PageImage) (segment page : ℕ) → IsAllocated old → TakesPage old new segment page → ReadsSame old new
+pub taken_reads : (old new : List PageImage) (segment page : ℕ) → IsAllocated old → TakesPage old new segment page → ReadsSame old new
 taken_reads old new segment page fine takes = record {
   cells = same_cells old new segment page takes fine;
   roots = roots_same old new takes.fixed;

@@ -7,7 +7,7 @@ ghost use Rattle.ostore_graph_model.specs.LawsOfMeaning.{LawOfTakenPages, LawOfS
 ghost use Rattle.ostore_graph_model.specs.LawsOfMeaning.{LawOfBoundRoots, LawOfUnboundRoots};
 ghost use Rattle.ostore_graph_model.specs.LawsOfFreshPages.{LawOfFreshPages};
 ghost use Rattle.ostore_graph_model.specs.LawsOfLinks.{LawOfFirstSides, LawOfSides};
-ghost use Rattle.ostore_graph_model.specs.LawsOfIndexes.{LawOfIndexOrder};
+ghost use Rattle.ostore_graph_model.specs.LawsOfIndexes.{LawOfUndeclaredIndexes, LawOfIndexOrder};
 
 /// Pages stand for one graph at most.
 pub fn graph_is_one()
@@ -86,6 +86,11 @@ pub fn link_goes_by_first_side()
 /// Where the links are good, each side of a link, the second one too, shows exactly the graph's pairs.
 pub fn each_side_shows_pairs()
     ensures { LawOfSides }
+{}
+
+/// Where no collection of a schema has an inverse, valid pages stand for a graph without indexes.
+pub fn no_index_is_declared()
+    ensures { LawOfUndeclaredIndexes }
 {}
 
 /// An index of ints has its entries by ascending int.

@@ -31,9 +31,9 @@ pub use laws_of_histories::{
 };
 pub use laws_of_pages::{
     each_side_shows_pairs, fresh_pages_are_empty, graph_is_one, graph_is_there, index_ascends,
-    int_is_written, link_goes_by_first_side, no_index_is_wrong, object_is_made, page_is_taken,
-    reference_is_cleared, reference_is_written, root_is_bound, root_is_unbound, same_is_read,
-    text_is_written,
+    int_is_written, link_goes_by_first_side, no_index_is_declared, no_index_is_wrong,
+    object_is_made, page_is_taken, reference_is_cleared, reference_is_written, root_is_bound,
+    root_is_unbound, same_is_read, text_is_written,
 };
 pub use laws_of_steps::{
     answers_are_replies, deleted_name_is_dead, drawn_name_stays_drawn, first_graph_is_graph,

@@ -1,13 +1,14 @@
 //! Laying out the members of a type in the cell of its objects.
 
 ghost use Rattle.std.specs.Prelude.{◌≡◌, ◌≤◌, IfOk};
+ghost use Rattle.std.specs.List.{slice_get};
 ghost use Rattle.ostore_schema_layout.specs.Limits.{largest_cell};
-ghost use Rattle.ostore_schema_layout.specs.Cells.{IsType, IsSoundLayout, cell_size, in_fours, kind_size, layout_of};
+ghost use Rattle.ostore_schema_layout.specs.Cells.{IsType, IsSoundLayout, cell_size, in_fours, kind_size, layout_of, places_from};
 ghost use Rattle.ostore_schema_layout.specs.Numbers.{members_of};
 ghost use Rattle.ostore_schema_layout.specs.Lawful.{IsLawful};
 
 use crate::layouts::{Layout, Place, Places};
-use crate::schema::{MemberDef, MemberKind, Schema, TypeNo};
+use crate::schema::{MemberDef, MemberKind, MemberNo, Schema, TypeNo};
 use ostore_base::OutOfMemory;
 use std::alloc::Global;
 
@@ -47,6 +48,36 @@ fn layout_of_members(alloc: Global, members: &[MemberDef]) -> Result<Layout, Out
         size,
         members: places,
     })
+}
+
+/// Where a member of a type of the schema lies in the cell of the type's objects, as [`layout`] says. None comes
+/// exactly where the type has no such member. It takes no memory.
+#[tactic(auto, using(crate::proofs::places::LayoutLaws::lawful_cell_size))]
+pub fn place_of(schema: &Schema, ty: TypeNo, member: MemberNo) -> Option<Place>
+    requires lawful { IsLawful schema.now }
+    requires there { IsType schema.now ty.0 }
+    ensures { result ≡ slice_get (places_from 0 (members_of schema.now ty.0)) member.0 }
+{
+    place_among(schema.members_of(ty), member)
+}
+
+/// Where a member lies among members that have room in a cell.
+#[tactic(auto, using(crate::proofs::places::LayoutLaws::sizes_in_cell))]
+fn place_among(members: &[MemberDef], member: MemberNo) -> Option<Place>
+    requires { cell_size members.now ≤ largest_cell }
+    ensures { result ≡ slice_get (places_from 0 members.now) member.0 }
+{
+    let mut offset = 0;
+    for (number, def) in members.iter().enumerate() {
+        if number == usize::from(member.0) {
+            return Some(Place {
+                offset,
+                kind: def.kind,
+            });
+        }
+        offset += kind_size(def.kind);
+    }
+    None
 }
 
 /// How many bytes a member takes.

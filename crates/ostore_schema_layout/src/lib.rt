@@ -12,7 +12,7 @@ mod print;
 mod reading;
 mod schema;
 
-pub use cells::layout;
+pub use cells::{layout, place_of};
 pub use fault::SchemaFault;
 pub use layouts::{Layout, Place, Places};
 pub use lookup::{Named, first_named, place_named};

@@ -14,4 +14,5 @@ pub mod RoomLaws
 pub mod AddingLaws
 pub mod MakeLaws
 pub mod RootLaws
+pub mod CellPlaceLaws
 mod TestLaws

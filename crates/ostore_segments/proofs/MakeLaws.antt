@@ -54,7 +54,7 @@ placed_counter old new segment need page within (grown full it) = it.counters se
 placed_counter old new segment need page within (early full none it same) = ap (λ list. counter_of list segment) same
 
 -- a segment whose serials aren't spent has some left
-unspent : (list : List PageImage) (segment : ℕ) → IsAllocated list → (AreSpent list segment → ⊥) → counter_of list segment < 4294967295
+pub unspent : (list : List PageImage) (segment : ℕ) → IsAllocated list → (AreSpent list segment → ⊥) → counter_of list segment < 4294967295
 unspent list segment fine left = elim (cases_eq (first_of list segment) 0) [
   | inl none ↦
       let chains = fine.chains in

@@ -1,7 +1,7 @@
 -- What may be written into a page: bytes that leave its cells and rows, and add one cell at most; a pointer; or
 -- the row of a root.
-use Rattle.std.specs.Prelude.{◌≡◌, ◌≢◌, ℕ, ◌+◌, ◌-◌, ◌*◌, ◌<◌, ◌≤◌, ◌⊎◌, List, [], ◌∷◌, ◌++◌, length, replicate, Option, None, Some}
-use Rattle.std.specs.List.{All}
+use Rattle.std.specs.Prelude.{◌≡◌, ◌≢◌, ℕ, ◌+◌, ◌-◌, ◌*◌, ◌<◌, ◌≤◌, ◌⊎◌, true, List, [], ◌∷◌, ◌++◌, length, replicate, Option, None, Some}
+use Rattle.std.specs.List.{All, AllByRecursion, Contains}
 use Rattle.ostore_base.specs.Disk.{replaced}
 use Rattle.ostore_base.specs.declared.page.PageImage.{PageImage}
 use Rattle.ostore_base.specs.declared.page.TheConstants.{PAGE_SIZE}
@@ -9,8 +9,10 @@ use Rattle.byteorder.specs.Endian.{little_bytes}
 use Rattle.ostore_page_tags.specs.declared.layout.TheConstants.{ROW_BYTES, ROOTS_PAGE, ROOT_BYTES, NAME_IN_ROOT, POINTER_IN_ROOT, ZEROS_IN_ROOT}
 use Rattle.ostore_page_tags.specs.Header.{header_of}
 use Rattle.ostore_page_tags.specs.Cells.{Cell, cells_of, AreApart}
+use Rattle.ostore_page_tags.specs.Rules.{IsPage}
 use Rattle.ostore_page_tags.specs.PageLists.{bytes_at, with_bytes}
-use Rattle.ostore_page_tags.specs.PagePointers.{IsOneOf, page_pointers, root_place}
+use Rattle.ostore_page_tags.specs.PageChains.{IsOpen}
+use Rattle.ostore_page_tags.specs.PagePointers.{IsBeside, IsOneOf, page_pointers, root_place}
 use Rattle.ostore_segments.specs.Holdings.{PagesTold}
 
 -- ---- bytes
@@ -49,6 +51,22 @@ pub record CanPut (told : PagesTold) (page at : ℕ) (bytes : List ℕ) (list : 
   pub there : page < length list
   pub no_roots : page ≢ ROOTS_PAGE
   pub puts : PutsBesideCells told.sizes at bytes (bytes_at list page)
+
+-- ---- bytes of a cell
+
+-- A live cell begins at an offset of a page of objects, with the size that is told of its code. The n bytes from a
+-- place of the cell on lie in it, and are none of its pointers'.
+pub record HasBytesInCell (told : PagesTold) (page offset at n : ℕ) (list : List PageImage)
+    : Type 0 where
+  pub lies : IsOpen (length list) page
+  pub good : IsPage (bytes_at list page)
+  pub cell : Cell
+  pub there : Contains (cells_of (bytes_at list page)) cell
+  pub begins : cell.row.offset ≡ offset
+  pub live : cell.row.live ≡ true
+  pub sized : told.sizes cell.row.code ≡ Some (length cell.bytes)
+  pub within : at + n ≤ length cell.bytes
+  pub beside : AllByRecursion (IsBeside at n) (told.pointers cell.row.code)
 
 -- ---- pointers
 

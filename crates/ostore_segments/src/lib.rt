@@ -1,6 +1,7 @@
 //! Which page a new cell goes to, and which serial a new object gets, over any holder of pages.
 #![tactic(auto)]
 
+mod cell_pages;
 mod cells;
 mod chain;
 mod fields;
@@ -12,6 +13,7 @@ mod placement;
 mod schema_pages;
 mod serials;
 
+pub use cell_pages::CellPages;
 pub use cells::add;
 pub use chain::{PagesOfFault, pages_of};
 pub use growth::grow;

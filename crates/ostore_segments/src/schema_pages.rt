@@ -8,9 +8,10 @@ ghost use Rattle.ostore_page_tags.specs.PageLists.{with_bytes};
 ghost use Rattle.ostore_segments.specs.Edits.{IsRootAsked, root_row};
 ghost use Rattle.ostore_segments.specs.SchemaCells.{size_told};
 
+use crate::cell_pages::CellPages;
 use crate::pages::Pages;
 use ostore_base::cell_codes::{SET_CHUNK, TEXT_INDEX_CHUNK};
-use ostore_base::{PageImage, PageList, PageNo};
+use ostore_base::{PAGE_SIZE, PageImage, PageList, PageNo};
 use ostore_page_tags::layout::{
     NAME_IN_ROOT, NAME_LENGTH_IN_ROOT, POINTER_IN_ROOT, ROOT_BYTES, ROOTS_AT, ROOTS_PAGE,
 };
@@ -124,4 +125,25 @@ impl<'a> Pages for SchemaPages<'a> {
     ghost passes_on = { λ a b c first second. tt };
 
     ghost fails_later = { λ a b c fault passed failed. failed };
+}
+
+impl<'a> CellPages for SchemaPages<'a> {
+    fn page_at(&self, pointer: u32) -> PageNo {
+        PageNo(pointer / PAGE_SIZE as u32)
+    }
+
+    fn pointer_to(&self, page: PageNo, at: u16) -> u32 {
+        page.0 * PAGE_SIZE as u32 + u32::from(at)
+    }
+
+    fn edit_cell(
+        &mut self,
+        page: PageNo,
+        offset: u16,
+        at: u16,
+        bytes: &[u8],
+    ) -> Result<(), Infallible> {
+        put_bytes(&mut self.pages, page, offset + at, bytes);
+        Ok(())
+    }
 }

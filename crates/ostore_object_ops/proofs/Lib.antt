@@ -1,0 +1,17 @@
+pub mod VarsLaws
+pub mod LeadFacts
+pub mod StepFacts
+pub mod ObjectFacts
+pub mod CellPlaces
+pub mod GoodCells
+pub mod SeenCells
+pub mod IntPlaces
+pub mod IntSchemas
+pub mod IntFacts
+pub mod OnMember
+pub mod MemberFacts
+pub mod FindFacts
+pub mod CommandFacts
+pub mod PageBridge
+pub mod NewFacts
+pub mod RunLaws

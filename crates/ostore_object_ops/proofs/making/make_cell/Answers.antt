@@ -1,0 +1,64 @@
+use Rattle.std.proofs.Common.{rules, ◌≡◌, ◌+◌, ◌∙◌, ◌<◌, ℕ, List, ap, sym, subst, arith, Ok, Err, inl, Some, length}
+use Rattle.ostore_base.specs.declared.page.PageImage.{PageImage}
+use Rattle.ostore_schema_layout.specs.Cells.{code_size}
+use Rattle.ostore_segments.specs.declared.objects.NewCell.{NewCell}
+use Rattle.ostore_segments.specs.declared.placement.NoSpace.{NoSpace}
+use Rattle.ostore_segments.specs.Making.{IsObjectAsked, Makes}
+use Rattle.ostore_segments.specs.Placing.{FindsNone}
+use Rattle.ostore_segments.proofs.ListSteps.{Stands-now, Becomes-stands, Becomes-then, Becomes-weaker}
+use Rattle.ostore_object_ops.proofs.NewFacts.{new_type, IsMade, made_within}
+use Rattle.ostore_object_ops.proofs.StepFacts.{opened_change}
+use Rattle.ostore_object_ops.proofs.making.make_cell.Goals as goal
+
+pub code_size-requires-clause-there : goal.code_size-requires-clause-there
+code_size-requires-clause-there g c = inl c.requires.ty
+
+pub make-requires-clause-asked : goal.make-requires-clause-asked
+make-requires-clause-asked g c =
+    let is = new_type c.args.schema.now c.args.number c.requires.suits.lawful c.requires.ty in
+    subst (λ (n : ℕ). IsObjectAsked n c.args.number.0) (sym c.code_size.ensures) is.asked
+
+pub make-requires-clause-size : goal.make-requires-clause-size
+make-requires-clause-size g c =
+    let is = new_type c.args.schema.now c.args.number c.requires.suits.lawful c.requires.ty in
+    ap (λ f. f c.args.number.0) c.requires.suits.sizes ∙ is.told ∙ ap (λ (n : ℕ). Some n) (sym c.code_size.ensures)
+
+pub returns-in-Err-clause-lists : goal.returns-in-Err-clause-lists
+returns-in-Err-clause-lists g c =
+    let opened = opened_change (λ (cell : NewCell) old new. Makes old new c.args.segment cell.page.0 c.code_size.result c.args.number.0 cell.serial cell.offset) (λ (lack : NoSpace) old new. FindsNone old new c.args.segment (c.code_size.result + 8)) c.in_ok-cell.field-0 (Err c.in-Err.lack) c.in-Err.is c.in_ok-cell.ensures.lists in
+    Becomes-weaker (λ old new there finds. subst (λ (n : ℕ). FindsNone old new c.args.segment (n + 8)) c.code_size.ensures finds) opened
+
+pub enter-requires : goal.enter-requires
+enter-requires g c =
+    let is = new_type c.args.schema.now c.args.number c.requires.suits.lawful c.requires.ty in
+    let asked = subst (λ (n : ℕ). IsObjectAsked n c.args.number.0) (sym c.code_size.ensures) is.asked in
+    let opened = opened_change (λ (cell : NewCell) old new. Makes old new c.args.segment cell.page.0 c.code_size.result c.args.number.0 cell.serial cell.offset) (λ (lack : NoSpace) old new. FindsNone old new c.args.segment (c.code_size.result + 8)) c.in_ok-cell.field-0 (Ok c.in-Ok.cell) c.in-Ok.is c.in_ok-cell.ensures.lists in
+    Becomes-stands c.requires.allocated (λ old new fine makes. (made_within old new c.args.segment c.in-Ok.cell.page.0 c.code_size.result c.args.number.0 c.in-Ok.cell.serial c.in-Ok.cell.offset fine asked.most c.requires.segment makes).page_there) opened
+
+pub returns-clause-lists : goal.returns-clause-lists
+returns-clause-lists g c =
+    let opened = opened_change (λ (cell : NewCell) old new. Makes old new c.args.segment cell.page.0 c.code_size.result c.args.number.0 cell.serial cell.offset) (λ (lack : NoSpace) old new. FindsNone old new c.args.segment (c.code_size.result + 8)) c.in_ok-cell.field-0 (Ok c.in-Ok.cell) c.in-Ok.is c.in_ok-cell.ensures.lists in
+    Becomes-weaker
+    (λ old new there both.
+    subst (λ (n : ℕ). Makes old new c.args.segment c.in-Ok.cell.page.0 n c.args.number.0 c.in-Ok.cell.serial c.in-Ok.cell.offset) c.code_size.ensures
+    (subst (λ list. Makes old list c.args.segment c.in-Ok.cell.page.0 c.code_size.result c.args.number.0 c.in-Ok.cell.serial c.in-Ok.cell.offset) (sym both.second) both.first))
+    (Becomes-then opened c.in_ok-enter.ensures.lists)
+
+pub returns-clause-place : goal.returns-clause-place
+returns-clause-place g c =
+    let is = new_type c.args.schema.now c.args.number c.requires.suits.lawful c.requires.ty in
+    let asked = subst (λ (n : ℕ). IsObjectAsked n c.args.number.0) (sym c.code_size.ensures) is.asked in
+    let opened = opened_change (λ (cell : NewCell) old new. Makes old new c.args.segment cell.page.0 c.code_size.result c.args.number.0 cell.serial cell.offset) (λ (lack : NoSpace) old new. FindsNone old new c.args.segment (c.code_size.result + 8)) c.in_ok-cell.field-0 (Ok c.in-Ok.cell) c.in-Ok.is c.in_ok-cell.ensures.lists in
+    let made = Stands-now {P = λ list. IsMade list list c.in-Ok.cell.page.0 c.in-Ok.cell.offset} (λ list within. (within.page_below, within.offset_below))
+    (Becomes-stands c.requires.allocated (λ old new fine makes.
+    let within = made_within old new c.args.segment c.in-Ok.cell.page.0 c.code_size.result c.args.number.0 c.in-Ok.cell.serial c.in-Ok.cell.offset fine asked.most c.requires.segment makes in
+    record { page_low = within.page_low; page_below = within.page_below; page_there = within.page_there; offset_below = within.offset_below }) opened) in
+    made
+
+pub returns-in_err-enter-clause-fails : goal.returns-in_err-enter-clause-fails
+returns-in_err-enter-clause-fails g c =
+    let failed = g.met.P.Pages.fails_later _ _ _ _ c.in_ok-cell.ensures.passes c.in_err-enter.ensures.fails in
+    search rules
+
+pub returns-clause-passes : goal.returns-clause-passes
+returns-clause-passes g c = g.met.P.Pages.passes_on _ _ _ c.in_ok-cell.ensures.passes c.in_ok-enter.ensures.passes
