@@ -13,5 +13,7 @@ pub mod ClientAgain
 pub mod TurnAgain
 pub mod JobAgain
 pub mod OptionTaken
+pub mod TextsUtf8
 pub mod DraftTaken
 pub mod SaidJob
+pub mod CanonicalAgain

@@ -1,8 +1,9 @@
 -- Which jobs are lawful: those that a text can spell. Each name is an identifier, each number within its limits,
--- no two clients have one name, and each entry of `turns` names a client.
-use Rattle.std.specs.Prelude.{◌≡◌, ◌≢◌, ℕ, ◌<◌, ◌≤◌, IsTrue, nat_le, List, [], ◌∷◌, length, codes, FitsSigned, Option, Some, None}
+-- each quoted text UTF-8, no two clients have one name, and each entry of `turns` names a client.
+use Rattle.std.specs.Prelude.{◌≢◌, ℕ, ◌<◌, ◌≤◌, IsTrue, nat_le, List, length, codes, FitsSigned, Option, Some, None}
 use Rattle.std.specs.Int.{w64}
 use Rattle.std.specs.List.{list_all, AllByRecursion}
+use Rattle.std.specs.Str.{IsUtf8}
 use Rattle.ostore_base.specs.Limits.{most_segments, most_clients, most_pages}
 use Rattle.ostore_text_words.specs.Words.{is_identifier, greatest_serial}
 use Rattle.ostore_schema_layout.specs.Cells.{ArePairwise}
@@ -76,6 +77,32 @@ IsLawfulCommand (commands.Index object member path) = IsLawfulPlace object membe
 IsLawfulCommand (commands.Unindex object member path) = IsLawfulPlace object member × IsLawfulPath path
 IsLawfulCommand (commands.Query object member path op key) = IsLawfulPlace object member × IsLawfulPath path × IsLawfulKey key
 
+-- ---- quoted texts: UTF-8, as the text is in which they stand
+
+abbrev pub IsUtf8Operand : Operand → Type 0
+IsUtf8Operand (operands.Int value) = Unit {0}
+IsUtf8Operand (operands.Text text) = IsUtf8 text
+IsUtf8Operand (operands.Var name) = Unit {0}
+IsUtf8Operand operands.Null = Unit {0}
+
+abbrev pub IsUtf8Key : Key → Type 0
+IsUtf8Key (keys.Int value) = Unit {0}
+IsUtf8Key (keys.Text text) = IsUtf8 text
+
+abbrev pub IsUtf8Command : Command → Type 0
+IsUtf8Command (commands.Set object member value) = IsUtf8Operand value
+IsUtf8Command (commands.Bind object member key item) = IsUtf8Key key
+IsUtf8Command (commands.Look to object member key) = IsUtf8Key key
+IsUtf8Command (commands.Unbind object member key) = IsUtf8Key key
+IsUtf8Command (commands.Query object member path op key) = IsUtf8Key key
+IsUtf8Command other = Unit {0}
+
+abbrev pub IsUtf8Txn : Txn → Type 0
+IsUtf8Txn txn = AllByRecursion IsUtf8Command txn.commands
+
+abbrev pub IsUtf8Client : JobClient → Type 0
+IsUtf8Client client = AllByRecursion IsUtf8Txn client.txns
+
 -- ---- options
 
 -- the options of a client
@@ -129,3 +156,4 @@ pub record IsLawfulJob (job : Job) : Type 0 where
   pub own_names : ArePairwise (λ earlier later. earlier.name ≢ later.name) job.clients
   pub lawful_clients : AllByRecursion IsLawfulClient job.clients
   pub lawful_turns : AllByRecursion (IsLawfulTurn job.clients) job.turns
+  pub utf8_texts : AllByRecursion IsUtf8Client job.clients

@@ -9,6 +9,7 @@ pub mod Drafted
 pub mod ParsedJob
 pub mod LawfulJob
 pub mod JobSpelling
+pub mod ReadBack
 pub mod Spelling
 pub mod Results
 pub mod Report

@@ -10,6 +10,7 @@ ghost use Rattle.std.specs.List.{flat_map};
 ghost use Rattle.ostore_text_words.specs.Lines.{joined, text_of_lines};
 ghost use Rattle.ostore_job_text.specs.CommandWords.{command_words};
 ghost use Rattle.ostore_job_text.specs.Canonical.{option_words, client_options, client_line, begin_line, end_line, txn_lines, client_lines, client_name, turn_word, turns_line, turns_lines, canonical_text};
+ghost use Rattle.ostore_job_text.specs.ReadBack.{IsReadBackIfLawful};
 ghost use Rattle.ostore_job_text.specs.inside.Spaced.{spaced};
 
 use crate::job::{DEFAULT_CACHE, DEFAULT_FRAMES, DEFAULT_TRIES, Job, JobClient, JobTurn};
@@ -22,9 +23,18 @@ use words::{push_count, push_word};
 
 /// The canonical text of a job: one space between words, no comments, and a newline after each line. Each
 /// entry of its `turns` names one of its clients; of an entry that names none nothing but its count is
-/// printed.
+/// printed. Of a lawful job, as `parse_job` gives one, the text is UTF-8, and reading it gives the job again,
+/// unless it has more than 4,194,304 bytes: then it is `JobFault::TooLong`.
 pub fn print_job(alloc: Global, job: &Job) -> Result<Text, OutOfMemory>
     ensures exact { IfOk result (λ text. text ≡ canonical_text job.now) }
+    ensures read_back { IfOk result (λ text. IsReadBackIfLawful text job.now) }
+{
+    printed(alloc, job)
+}
+
+/// The lines of the clients, and behind them those of the turns.
+fn printed(alloc: Global, job: &Job) -> Result<Text, OutOfMemory>
+    ensures { IfOk result (λ text. text ≡ canonical_text job.now) }
 {
     let mut out = Text::new(alloc);
     push_clients(&mut out, job.clients.items())?;
