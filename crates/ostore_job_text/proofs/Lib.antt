@@ -14,4 +14,4 @@ pub mod TurnAgain
 pub mod JobAgain
 pub mod OptionTaken
 pub mod DraftTaken
-pub mod SaidJob
+pub mod InputSaid

@@ -10,6 +10,7 @@ pub mod ParsedJob
 pub mod LawfulJob
 pub mod JobSpelling
 pub mod Spelling
+pub mod TryFaults
 pub mod Results
 pub mod Report
 pub mod FaultLine
