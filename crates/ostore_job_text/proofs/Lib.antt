@@ -15,5 +15,5 @@ pub mod JobAgain
 pub mod OptionTaken
 pub mod TextsUtf8
 pub mod DraftTaken
-pub mod SaidJob
 pub mod CanonicalAgain
+pub mod InputSaid

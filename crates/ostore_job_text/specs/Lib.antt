@@ -11,6 +11,7 @@ pub mod LawfulJob
 pub mod JobSpelling
 pub mod ReadBack
 pub mod Spelling
+pub mod TryFaults
 pub mod Results
 pub mod Report
 pub mod FaultLine

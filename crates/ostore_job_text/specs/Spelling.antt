@@ -1,14 +1,11 @@
 -- What a text for `try` says: a schema, a line `job`, and a job; and which schemas and jobs are built.
-use Rattle.std.specs.Prelude.{◌≡◌, ℕ, ◌≤◌, true, false, if◌then◌else◌, nat_le, List, [], ◌∷◌, length, take, drop, codes, Option, Some, None, Result, Ok, Err}
+use Rattle.std.specs.Prelude.{◌≡◌, ℕ, ◌≤◌, List, [], ◌∷◌, length, take, drop, codes, Option, Some, None}
 use Rattle.std.specs.List.{AllByRecursion}
 use Rattle.ostore_text_words.specs.Lines.{parting_of}
-use Rattle.ostore_schema_layout.specs.declared.schema.Schema.{Schema}
 use Rattle.ostore_schema_layout.specs.declared.schema.TypeDef.{TypeDef}
 use Rattle.ostore_schema_layout.specs.declared.schema.MemberDef.{MemberDef}
 use Rattle.ostore_schema_layout.specs.declared.schema.MemberKind.TheVariants as kinds
-use Rattle.ostore_schema_layout.specs.declared.fault.SchemaFault.{SchemaFault}
 use Rattle.ostore_schema_layout.specs.Spells.{Spells}
-use Rattle.ostore_schema_layout.specs.Parsed.{parsed}
 use Rattle.ostore_graph_model.specs.declared.commands.Command.{Command}
 use Rattle.ostore_graph_model.specs.declared.commands.Command.TheVariants.{New, Get, Set}
 use Rattle.ostore_graph_model.specs.declared.commands.Operand.TheVariants as operands
@@ -80,15 +77,3 @@ pub record Says (text : List ℕ) (input : TryInput) : Type 0 where
 -- the text says no input that is built
 abbrev pub IsRefused : List ℕ → Type 0
 IsRefused text = (input : TryInput) → Says text input → ⊥
-
-abbrev pub fault_parsed : Result Schema SchemaFault → Option SchemaFault
-fault_parsed (Ok schema) = None
-fault_parsed (Err fault) = Some fault
-
--- the fault of the schema's part, which is judged where the whole text is short enough
-abbrev pub schema_fault : List ℕ → Option SchemaFault
-schema_fault text = if nat_le (length text) longest_text then fault_parsed (parsed (schema_part text)) else None
-
--- the text says no input that is built, and this is the fault of its schema's part
-abbrev pub IsRefusedFor : List ℕ → Option SchemaFault → Type 0
-IsRefusedFor text fault = IsRefused text × (schema_fault text ≡ fault)

@@ -14,7 +14,7 @@ mod tests;
 
 use crate::job::{Job, JobClient};
 use crate::results::{ClientResults, Results, Tail, TxnResult};
-pub use fault::{print_job_fault, print_schema_fault};
+pub use fault::{print_job_fault, print_schema_fault, print_try_fault};
 use ostore_base::{OutOfMemory, Text};
 use outcomes::{push_outcome, push_replies_told};
 use pieces::push_number;

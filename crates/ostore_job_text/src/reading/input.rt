@@ -1,16 +1,12 @@
 //! The whole text.
 
-ghost use Rattle.std.specs.Prelude.{◌≡◌, ◌≤◌, length, drop, IfOk, Err, None, Some};
-ghost use Rattle.ostore_schema_layout.specs.declared.fault.SchemaFault.{SchemaFault};
-ghost use Rattle.ostore_job_text.specs.declared.job.Job.{Job};
+ghost use Rattle.std.specs.Prelude.{◌≡◌, ◌⊎◌, IfOk, IfErr, Err};
 ghost use Rattle.ostore_job_text.specs.declared.input.TryInput.{TryInput};
-ghost use Rattle.ostore_job_text.specs.Spelling.{Says, SaysJob, IsRefusedFor, schema_part, job_start};
-ghost use Rattle.ostore_job_text.specs.Limits.{longest_text};
-ghost use Rattle.ostore_job_text.specs.inside.BuiltJob.{ReadsJob};
+ghost use Rattle.ostore_job_text.specs.Spelling.{Says, schema_part, job_start};
+ghost use Rattle.ostore_job_text.specs.TryFaults.{IsRefusedFor, IsRefusedOrMemory};
 
 use crate::fault::JobFault;
 use crate::input::TryInput;
-use crate::job::Job;
 use crate::reading::built::{are_built_clients, are_built_types};
 use crate::reading::fault::TryFault;
 use crate::reading::jobs::{LONGEST_TEXT, read_job_from};
@@ -29,60 +25,13 @@ fn parts_of(text: &[u8]) -> (&[u8], usize)
     }
 }
 
-/// Why a part of a text gives no job that is built.
-#[derive(Clone, Copy, Debug, PartialEq, Eq)]
-enum JobRefused {
-    Refused,
-    OutOfMemory,
-}
-
-/// The job from a place on, where it is built.
-fn read_built_job(alloc: Global, text: &[u8], start: usize) -> Result<Job, JobRefused>
-    ensures read { IfOk result (λ job. ReadsJob start text.now job) }
-    ensures only { IfOk result
-        (λ job. (other : Job) → ReadsJob start text.now other → other ≡ job) }
-    ensures refused { result ≡ Err JobRefused.Refused
-        → (job : Job) → ReadsJob start text.now job → ⊥ }
-{
-    match read_job_from(alloc, text, start) {
-        Err(JobFault::OutOfMemory) => Err(JobRefused::OutOfMemory),
-        Err(_) => Err(JobRefused::Refused),
-        Ok(job) => {
-            if !are_built_clients(job.clients.items()) {
-                return Err(JobRefused::Refused);
-            }
-            Ok(job)
-        }
-    }
-}
-
-/// The job that the text spells from a place on, where it is built.
-fn read_said_job(alloc: Global, text: &[u8], start: usize) -> Result<Job, JobRefused>
-    requires { length text.now ≤ longest_text }
-    ensures read { IfOk result (λ job. SaysJob (drop start text.now) job) }
-    ensures only { IfOk result
-        (λ job. (other : Job) → SaysJob (drop start text.now) other → other ≡ job) }
-    ensures refused { result ≡ Err JobRefused.Refused
-        → (job : Job) → SaysJob (drop start text.now) job → ⊥ }
-{
-    read_built_job(alloc, text, start)
-}
-
-/// Reads a text for `try`: a schema, and behind the line `job` a job, which run. A fault of the schema's part comes
-/// before anything that is refused, but for a text that is too long.
-pub fn read_try_input(alloc: Global, text: &[u8]) -> Result<TryInput, TryFault>
-    // What is read is what the text says.
+/// What the parts of the text are read as.
+fn read_parts(alloc: Global, text: &[u8]) -> Result<TryInput, TryFault>
     ensures read { IfOk result (λ input. Says text.now input) }
-    // The text says nothing else.
-    ensures only { IfOk result (λ input. (other : TryInput) → Says text.now other → other ≡ input) }
-    // What is refused says nothing, and its schema's part has no fault.
-    ensures refused { result ≡ Err TryFault.Refused → IsRefusedFor text.now None }
-    // A schema's fault is that of the text, which says nothing.
-    ensures schema { (fault : SchemaFault) →
-        result ≡ Err (TryFault.Schema fault) → IsRefusedFor text.now (Some fault) }
+    ensures refused { IfErr result (λ fault. IsRefusedOrMemory text.now fault) }
 {
     if text.len() > LONGEST_TEXT {
-        return Err(TryFault::Refused);
+        return Err(TryFault::Job(JobFault::TooLong { at: LONGEST_TEXT }));
     }
     let (schema_part, start) = parts_of(text);
     let schema = match parse_schema(alloc, schema_part) {
@@ -90,14 +39,32 @@ pub fn read_try_input(alloc: Global, text: &[u8]) -> Result<TryInput, TryFault>
         Err(SchemaFault::OutOfMemory) => return Err(TryFault::OutOfMemory),
         Err(fault) => return Err(TryFault::Schema(fault)),
     };
-    if !are_built_types(schema.types.items()) {
+    let job = match read_job_from(alloc, text, start) {
+        Ok(job) => job,
+        Err(JobFault::OutOfMemory) => return Err(TryFault::OutOfMemory),
+        Err(fault) => return Err(TryFault::Job(fault)),
+    };
+    if !are_built_types(schema.types.items()) || !are_built_clients(job.clients.items()) {
         return Err(TryFault::Refused);
     }
-    match read_said_job(alloc, text, start) {
-        Ok(job) => Ok(TryInput { schema, job }),
-        Err(JobRefused::Refused) => Err(TryFault::Refused),
-        Err(JobRefused::OutOfMemory) => Err(TryFault::OutOfMemory),
-    }
+    Ok(TryInput { schema, job })
+}
+
+/// Reads a text for `try`: a schema, and behind the line `job` a job, which run. A text above 4,194,304 bytes is
+/// `Job(TooLong)`. Then come the faults of the schema's part, then those of the job's, whose places count from the
+/// start of the whole text. `Refused` is a text without a fault whose schema or job isn't built.
+pub fn read_try_input(alloc: Global, text: &[u8]) -> Result<TryInput, TryFault>
+    // What is read is what the text says.
+    ensures read { IfOk result (λ input. Says text.now input) }
+    // The text says nothing else.
+    ensures only { IfOk result (λ input. (other : TryInput) → Says text.now other → other ≡ input) }
+    // What isn't read is refused for what is answered.
+    ensures refused { IfErr result (λ fault. IsRefusedOrMemory text.now fault) }
+    // A text that is refused for something is answered so, and with nothing else.
+    ensures exact { (fault : TryFault) → IsRefusedFor text.now fault
+        → (result ≡ Err fault) ⊎ (result ≡ Err TryFault.OutOfMemory) }
+{
+    read_parts(alloc, text)
 }
 
 #[cfg(test)]

@@ -1,9 +1,10 @@
 //! The line that names what is wrong with a text.
 
 ghost use Rattle.std.specs.Prelude.{◌≡◌, codes, IfOk};
-ghost use Rattle.ostore_job_text.specs.FaultLine.{fault_at_place, fault_line, job_fault_line};
+ghost use Rattle.ostore_job_text.specs.FaultLine.{fault_at_place, fault_line, job_fault_line, refusal_line};
 
 use crate::fault::JobFault;
+use crate::reading::TryFault;
 use crate::report::pieces::push_number;
 use ostore_base::{OutOfMemory, Text};
 use ostore_schema_layout::SchemaFault;
@@ -44,4 +45,17 @@ pub fn print_job_fault(alloc: Global, fault: &JobFault) -> Result<Text, OutOfMem
 {
     let place = fault.place() as u64;
     print_fault(alloc, b"job", fault.number(), fault.name(), place)
+}
+
+/// The line that says what a text for `try` is refused for, with its newline: that of its fault, or `text refused`.
+/// Want of memory has the line `out of memory`.
+pub fn print_try_fault(alloc: Global, fault: &TryFault) -> Result<Text, OutOfMemory>
+    ensures { IfOk result (λ line. line ≡ refusal_line fault.now) }
+{
+    match fault {
+        TryFault::Schema(fault) => print_schema_fault(alloc, fault),
+        TryFault::Job(fault) => print_job_fault(alloc, fault),
+        TryFault::Refused => Text::from_bytes(alloc, b"text refused\n"),
+        TryFault::OutOfMemory => Text::from_bytes(alloc, b"out of memory\n"),
+    }
 }

@@ -79,28 +79,87 @@ fn short_texts(rt: HostRuntime) -> Result<(), Fail> {
 }
 
 #[test]
-fn refused_texts(rt: HostRuntime) {
+fn texts_that_are_not_built(rt: HostRuntime) {
     for text in [
         b"".as_slice(),
         b"type A\ntype B\n".as_slice(),
         b"type A\nb ref A\n".as_slice(),
-        b"type A\njob\nbegin\ncommit\n".as_slice(),
-        b"type A\njob\nclient a\nclient a\n".as_slice(),
-        b"type A\njob\nclient a tries=2\n".as_slice(),
         b"type A\njob\nclient a\nbegin\nfind $p 1.1\ncommit\n".as_slice(),
-        b"type A\njob\nclient a\nbegin\nget $a.b\n".as_slice(),
-        b"type A\njob\nclient a\nbegin\nnew $p A 0\ncommit\n".as_slice(),
-        b"type A\njob\nclient a\nbegin\nnew $p A 256\ncommit\n".as_slice(),
-        b"type A\njob\nclient a\nbegin\nset $p.id +1\ncommit\n".as_slice(),
-        b"type A\njob\nclient a\nturns a 1\n".as_slice(),
-        b"type A\njob\njob\n".as_slice(),
-        b"type A\njob\n# \x01\n".as_slice(),
-        b"type A\njob\n# \xff\n".as_slice(),
+        b"type A\njob\nclient a\nclient b\nread\nset $p.n null\nabort\n".as_slice(),
     ] {
         assert!(rt;
             matches!(read_try_input(rt.alloc(), text), Err(TryFault::Refused)),
             "{text:?}"
         );
+    }
+}
+
+#[test]
+fn jobs_at_fault(rt: HostRuntime) {
+    for (text, fault) in [
+        // places count from the start of the whole text
+        (
+            b"type Part\nid int\njob\nclient a\nbegin\nnew $p Part 1\nset $p.id 9223372036854775808\nget $p.id\ncommit\n".as_slice(),
+            JobFault::Syntax { at: 60 },
+        ),
+        (
+            b"type A\njob\nbegin\ncommit\n".as_slice(),
+            JobFault::Syntax { at: 11 },
+        ),
+        (
+            b"type A\njob\njob\n".as_slice(),
+            JobFault::Syntax { at: 11 },
+        ),
+        (
+            b"type A\njob\nclient a\nbegin\n".as_slice(),
+            JobFault::Syntax { at: 26 },
+        ),
+        (
+            b"type A\njob\n# \x01\n".as_slice(),
+            JobFault::Syntax { at: 13 },
+        ),
+        (
+            b"type A\njob\n# \xff\n".as_slice(),
+            JobFault::NotUtf8 { at: 13 },
+        ),
+        (
+            b"type A\njob\nclient a\nturns a b\n".as_slice(),
+            JobFault::UnknownTurn { at: 28 },
+        ),
+        // before a schema that isn't built
+        (
+            b"type A\nb ref A\njob\nclient a\nclient a\n".as_slice(),
+            JobFault::DuplicateClient { at: 35 },
+        ),
+        // a bad byte before a word that can't stand, and that before a name
+        (
+            b"job\nclient a\nclient a mail\n# \xff\n".as_slice(),
+            JobFault::NotUtf8 { at: 29 },
+        ),
+        (
+            b"job\nclient a\nclient a mail\n".as_slice(),
+            JobFault::Syntax { at: 26 },
+        ),
+    ] {
+        assert!(rt;
+            matches!(read_try_input(rt.alloc(), text), Err(TryFault::Job(found)) if found == fault),
+            "{text:?}"
+        );
+    }
+}
+
+#[test]
+fn a_text_cut_anywhere_has_its_fault_within(rt: HostRuntime) {
+    let text =
+        b"# parts\ntype Part\nid int\njob\nclient a tries 3 cache 2\nbegin\nnew $p Part 1\nset $p.name \"a \\\"b\"\nabort\nread\ncommit\nclient b\nturns a*2 b\n".as_slice();
+    for length in 0..text.len() {
+        let (number, place) = match read_try_input(rt.alloc(), &text[..length]) {
+            Err(TryFault::Schema(fault)) => (fault.number(), fault.place()),
+            Err(TryFault::Job(fault)) => (fault.number(), fault.place()),
+            Err(TryFault::OutOfMemory) => (0, 0),
+            Err(TryFault::Refused) | Ok(_) => (1, 0),
+        };
+        assert!(rt; number != 0 && place <= length, "{length}");
     }
 }
 
@@ -161,7 +220,12 @@ fn texts_to_the_limit(rt: HostRuntime) -> Result<(), Fail> {
     text.extend_from_slice(&comment)?;
     assert_eq!(rt; sizes(rt.alloc(), &text)?, [1, 1, 1, 1, 3]);
     text.push(b'#')?;
-    assert!(rt; matches!(read_try_input(rt.alloc(), &text), Err(TryFault::Refused)));
+    // nothing else of such a text is judged
+    text[0] = 255;
+    let fault = JobFault::TooLong { at: 4_194_304 };
+    assert!(rt;
+        matches!(read_try_input(rt.alloc(), &text), Err(TryFault::Job(found)) if found == fault)
+    );
     Ok(())
 }
 

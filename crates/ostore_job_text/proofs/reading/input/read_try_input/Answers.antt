@@ -1,12 +1,8 @@
-use Rattle.ostore_job_text.proofs.SaidJob.{only_input, refused_input}
+use Rattle.ostore_job_text.proofs.InputSaid.{only_said, answered}
 use Rattle.ostore_job_text.proofs.reading.input.read_try_input.Goals as goal
 
-pub returns-in-Ok-read_said_job-clause-only : goal.returns-in-Ok-read_said_job-clause-only
-returns-in-Ok-read_said_job-clause-only c =
-    only_input c.args.text.now c.parts_of-start.result.0.now c.parts_of-start.result.1 c.in-Ok.schema c.in-Ok-read_said_job.job
-    c.parts_of-start.ensures.schema c.parts_of-start.ensures.job c.in-Ok.ensures.exact c.in-Ok-read_said_job.ensures.only
+pub returns-clause-only : goal.returns-clause-only
+returns-clause-only c = only_said c.args.text.now c.read_parts.result c.read_parts.ensures.read
 
-pub returns-in-Err-Refused-clause-refused : goal.returns-in-Err-Refused-clause-refused
-returns-in-Err-Refused-clause-refused c = λ same.
-    refused_input c.args.text.now c.parts_of-start.result.0.now c.parts_of-start.result.1 c.in-Ok.schema c.in-Err-Refused.field-0 _
-    c.parts_of-start.ensures.schema c.parts_of-start.ensures.job c.in-Ok.ensures.exact c.in-Err-Refused.field-0-is c.in-Err-Refused.ensures.refused
+pub returns-clause-exact : goal.returns-clause-exact
+returns-clause-exact c = answered c.args.text.now c.read_parts.result c.read_parts.ensures.read c.read_parts.ensures.refused
