@@ -34,14 +34,14 @@ use Rattle.ostore_job_text.proofs.ClientAgain.{AreApart, Holds, other_name, put_
 
 -- ---- the client that an entry names
 
-at_place : {X : Type 0} (P : X → Type 0) (xs : List X) (k : ℕ) (x : X) → AllByRecursion P xs → slice_get xs k ≡ Some x → P x
+pub at_place : {X : Type 0} (P : X → Type 0) (xs : List X) (k : ℕ) (x : X) → AllByRecursion P xs → slice_get xs k ≡ Some x → P x
 at_place P [] k x h e = absurd cc
 at_place P (y ∷ ys) zero x h e =
     let same : y ≡ x = cc in
     subst P same h.0
 at_place P (y ∷ ys) (suc k) x h e = at_place P ys k x h.1 e
 
-there : {X : Type 0} (xs : List X) (k : ℕ) → k < length xs → (x : X) × (slice_get xs k ≡ Some x)
+pub there : {X : Type 0} (xs : List X) (k : ℕ) → k < length xs → (x : X) × (slice_get xs k ≡ Some x)
 there [] k h = absurd (omega arith)
 there (x ∷ xs) zero h = (x, refl)
 there (x ∷ xs) (suc k) h = there xs k (omega arith)
