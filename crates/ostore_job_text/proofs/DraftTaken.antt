@@ -21,9 +21,10 @@ use Rattle.ostore_job_text.specs.declared.said.LineSaid.TheVariants as kinds
 use Rattle.ostore_job_text.specs.declared.said.Stand.{Stand}
 use Rattle.ostore_job_text.specs.declared.said.Stand.TheVariants as stands
 use Rattle.ostore_job_text.specs.declared.reading.draft.Draft.{Draft}
-use Rattle.ostore_job_text.specs.CommandWords.{command_words}
+use Rattle.ostore_command_text.specs.CommandWords.{command_words}
 use Rattle.ostore_job_text.specs.Canonical.{client_name, name_of_client, end_line, txn_lines}
-use Rattle.ostore_job_text.specs.LawfulJob.{Setting, tries, cache, frames, setting_of, IsLawfulCommand, IsLawfulTxn, IsLawfulClient, IsLawfulTurn}
+use Rattle.ostore_command_text.specs.LawfulCommands.{IsLawfulCommand}
+use Rattle.ostore_job_text.specs.LawfulJob.{Setting, tries, cache, frames, setting_of, IsLawfulTxn, IsLawfulClient, IsLawfulTurn}
 use Rattle.ostore_job_text.specs.JobSpelling.{IsClientLine, AreClientLines, IsEntryWord, AreEntryWords, IsTurnsLine, AreTurnsLines, SpellsJob}
 use Rattle.ostore_job_text.specs.inside.LinesSpelled.{IsEntryWord as SaysEntry, AreEntryWords as SayEntries, IsLineOf, AreLinesOf, LinesSay}
 use Rattle.ostore_job_text.specs.Drafted.{is_there, bad_option, opened, place_of_client, client_fault, client_of_place, turn_of, entry_fault, unless_there, with_txns, closed, put_client, put_begin, put_command, put_end, unless_fault, with_entry, put_entry, put_entries, put_line, put, put_all, if_faultless, job_of, finished}

@@ -1,12 +1,8 @@
-pub mod PrintWords
 pub mod WordLoops
 pub mod DraftLoops
-pub mod CommandTaken
 pub mod LineTaken
 pub mod JobPart
 pub mod JobTaken
-pub mod WordAgain
-pub mod CommandAgain
 pub mod LineAgain
 pub mod OptionAgain
 pub mod ClientAgain
@@ -15,5 +11,3 @@ pub mod JobAgain
 pub mod OptionTaken
 pub mod TextsUtf8
 pub mod DraftTaken
-pub mod CanonicalAgain
-pub mod InputSaid

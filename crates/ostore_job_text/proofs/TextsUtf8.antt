@@ -12,9 +12,10 @@ use Rattle.ostore_graph_model.specs.declared.commands.Key.{Key}
 use Rattle.ostore_graph_model.specs.declared.commands.Key.TheVariants as keys
 use Rattle.ostore_graph_model.specs.declared.commands.Txn.{Txn}
 use Rattle.ostore_job_text.specs.declared.job.JobClient.{JobClient}
-use Rattle.ostore_job_text.specs.CommandWords.{operand_word, key_word, command_words}
+use Rattle.ostore_command_text.specs.CommandWords.{operand_word, key_word, command_words}
 use Rattle.ostore_job_text.specs.Canonical.{end_line, txn_lines}
-use Rattle.ostore_job_text.specs.LawfulJob.{IsUtf8Operand, IsUtf8Key, IsUtf8Command, IsUtf8Txn, IsUtf8Client}
+use Rattle.ostore_command_text.specs.LawfulCommands.{IsUtf8Operand, IsUtf8Key, IsUtf8Command}
+use Rattle.ostore_job_text.specs.LawfulJob.{IsUtf8Txn, IsUtf8Client}
 use Rattle.ostore_job_text.specs.JobSpelling.{AreClientLines}
 
 abbrev AreUtf8Lines : List (List (List ℕ)) → Type 0

@@ -4,9 +4,6 @@ ghost use Rattle.std.specs.Prelude.{◌≡◌, ℕ, List, Ok};
 ghost use Rattle.ostore_job_text.specs.declared.job.Job.{Job};
 ghost use Rattle.ostore_job_text.specs.JobSpelling.{SpellsJob};
 ghost use Rattle.ostore_job_text.specs.ParsedJob.{parsed_job};
-ghost use Rattle.ostore_job_text.specs.Spelling.{IsRefused};
-ghost use Rattle.ostore_job_text.specs.TryFaults.{IsRefusedFor};
-ghost use Rattle.ostore_job_text.specs.declared.reading.fault.TryFault.{TryFault};
 
 /// What a text spells is what it is read as.
 pub fn spelled_is_read()
@@ -22,15 +19,4 @@ pub fn read_is_spelled()
 pub fn one_job_is_spelled()
     ensures { (text : List ℕ) → (one other : Job) →
         SpellsJob text one → SpellsJob text other → one ≡ other }
-{}
-
-/// A text for `try` that is refused for something says no input that is run.
-pub fn refusal_says_nothing()
-    ensures { (text : List ℕ) → (fault : TryFault) → IsRefusedFor text fault → IsRefused text }
-{}
-
-/// A text for `try` is refused for at most one thing.
-pub fn one_refusal()
-    ensures { (text : List ℕ) → (one other : TryFault) →
-        IsRefusedFor text one → IsRefusedFor text other → one ≡ other }
 {}
