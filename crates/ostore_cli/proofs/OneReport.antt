@@ -1,30 +1,17 @@
 -- Two reports of one text are equal.
 use Rattle.std.proofs.Common.{◌≡◌, ℕ, List, length, map, Some, refl, sym, ap, subst, ◌∙◌}
-use Rattle.std.specs.Prelude.{Result, Ok}
-use Rattle.ostore_schema_layout.proofs.parsed.ParsedLaws.{spells_parsed}
 use Rattle.ostore_graph_model.specs.History.{IsLegalHistory, IsSerial, updates}
 use Rattle.ostore_graph_model.specs.Graph.{Graph, empty_graph}
 use Rattle.ostore_graph_model.proofs.SerialHistories.{serial_is_one}
-use Rattle.ostore_job_text.specs.declared.input.TryInput.{TryInput}
-use Rattle.ostore_job_text.specs.declared.results.TxnResult.{TxnResult}
-use Rattle.ostore_job_text.specs.Report.{report}
-use Rattle.ostore_job_text.specs.Results.{script_of, committed_of}
-use Rattle.ostore_job_text.specs.Spelling.{Says, schema_part, job_part}
-use Rattle.ostore_job_text.proofs.JobAgain.{one_spelled}
+use Rattle.ostore_try_input.specs.declared.input.TryInput.{TryInput}
+use Rattle.ostore_run_report.specs.declared.results.TxnResult.{TxnResult}
+use Rattle.ostore_run_report.specs.Report.{report}
+use Rattle.ostore_run_report.specs.Results.{committed_of}
+use Rattle.ostore_try_input.specs.Scripts.{script_of}
+use Rattle.ostore_try_input.proofs.InputSaid.{says_one}
 use Rattle.ostore_cli.specs.Promise.{IsReportOf, plain_tail, was_aborted}
 use Rattle.ostore_cli.specs.LawsOfReports.{LawOfOneReport}
 use Rattle.ostore_cli.proofs.ResultLaws.{same_names, same_results}
-
--- ---- a text says one input
-
-ok_is : {E T : Type 0} → (x y : T) → ◌≡◌ {A = Result T E} (Ok x) (Ok y) → x ≡ y
-ok_is x y e = cc
-
-says_one : (text : List ℕ) (one other : TryInput) → Says text one → Says text other → one ≡ other
-says_one text one other a b =
-    let schema : one.schema ≡ other.schema = ok_is one.schema other.schema (sym (spells_parsed (schema_part text) one.schema a.schema) ∙ spells_parsed (schema_part text) other.schema b.schema) in
-    let job : one.job ≡ other.job = one_spelled (job_part text) one.job other.job a.job.spelled b.job.spelled in
-    λ i. record { schema = schema i; job = job i }
 
 -- ---- an input has one report
 

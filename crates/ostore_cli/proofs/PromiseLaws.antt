@@ -3,14 +3,19 @@ use Rattle.std.proofs.Common.{◌≡◌, ℕ, ◌<◌, ◌≤◌, List, length, 
 use Rattle.std.specs.Prelude.{◌≢◌, IfSome, codes}
 use Rattle.std.proofs.lemmas.Bool.{false≢true, cases_lt, lt-leb}
 use Rattle.std.proofs.lemmas.List.{take_all, length-take}
-use Rattle.ostore_job_text.specs.FaultLine.{refusal_line}
-use Rattle.ostore_job_text.specs.Spelling.{Says, IsRefused}
+use Rattle.ostore_job_text.specs.declared.fault.JobFault.TheVariants as faults
+use Rattle.ostore_try_input.specs.declared.reading.fault.TryFault.{TryFault}
+use Rattle.ostore_try_input.specs.declared.reading.fault.TryFault.TheVariants as refusals
+use Rattle.ostore_try_input.specs.FaultLine.{refusal_line}
+use Rattle.ostore_try_input.specs.Spelling.{Says, IsRefused}
+use Rattle.ostore_try_input.specs.TryFaults.{IsRefusedFor, IsRefusedOrMemory}
+use Rattle.ostore_try_input.proofs.InputSaid.{refusal_says_nothing, one_refusal}
 use Rattle.ostore_cli.specs.declared.answers.Answer.{Answer}
-use Rattle.ostore_cli.specs.declared.answers.Answer.TheVariants.{Report, WordsRefused, TextRefused, SchemaFault, SourceFault, OutOfMemory}
+use Rattle.ostore_cli.specs.declared.answers.Answer.TheVariants.{Report, WordsRefused, TextRefused, SourceFault, OutOfMemory}
 use Rattle.ostore_cli.specs.Streams.{longest_read, IsWholeRead}
-use Rattle.ostore_cli.specs.Promise.{End, Call, HasText, IsReadThrough, IsReportOf, IsReportFrom, IsRefusalOf, EndsAt, reported, words_refused, text_refused, source_failed, sink_failed, memory_refused, IsRefusalStatus, KeepsPromise}
+use Rattle.ostore_cli.specs.Promise.{End, Call, HasText, IsReadThrough, IsReportOf, IsReportFrom, IsRefusalOf, EndsAt, reported, words_refused, text_refused, source_failed, sink_failed, memory_refused, PrintsLine, IsRefusalStatus, AnswersRefusal, KeepsPromise}
 use Rattle.ostore_cli.specs.Commands.{IsRow}
-use Rattle.ostore_cli.specs.inside.Answer.{IsAnswerTo, IsTextAnswer, IsLinePrint, IsPrintOf}
+use Rattle.ostore_cli.specs.inside.Answer.{IsAnswerTo, IsTextAnswer, IsFaultAnswer, IsLinePrint, IsPrintOf}
 
 -- a text that isn't too long is all of what a source had
 all_of_it : (bytes all : List ℕ) → all ≡ take longest_read bytes → length all ≤ 4194304 → all ≡ bytes
@@ -27,29 +32,33 @@ report_from source now all output read report =
     ] in
     record { text = all; had = had source.bytes read; report = report }
 
--- a text that is too long is refused, and its schema isn't judged
-too_long : (text : List ℕ) → 4194304 < length text → IsRefused text × (refusal_line text ≡ codes "text refused\n")
-too_long text long = (λ input says. absurd (omega (arith, says.short, long)), rw (lt-leb (length text) 4194304 long) refl)
+-- a text that is too long is refused for that
+abbrev too_long_fault : TryFault
+too_long_fault = refusals.Job (faults.TooLong 4194304)
+
+too_long : (text : List ℕ) → 4194304 < length text → IsRefusedFor text too_long_fault
+too_long text long = inl (record { long = long; told = refl })
 
 -- a refused text that a source had, and its line
 abbrev Refusal : Option (List ℕ) → List ℕ → Type 0
-Refusal bytes line = (text : List ℕ) × HasText bytes text × IsRefused text × (line ≡ refusal_line text)
+Refusal bytes line =
+    (text : List ℕ) × HasText bytes text × (fault : TryFault) × IsRefusedFor text fault × (line ≡ refusal_line fault)
 
 -- what was read is refused as what the source had is
-refusal_told : (bytes now : Option (List ℕ)) (all line : List ℕ) → IsWholeRead bytes now all → IsRefused all → line ≡ refusal_line all → Refusal bytes line
-refusal_told None now all line read refused named = (all, tt, refused, named)
-refusal_told (Some b) now all line read refused named =
+refusal_told : (bytes now : Option (List ℕ)) (all line : List ℕ) (fault : TryFault) → IsWholeRead bytes now all → IsRefusedFor all fault → line ≡ refusal_line fault → Refusal bytes line
+refusal_told None now all line fault read refused named = (all, tt, fault, refused, named)
+refusal_told (Some b) now all line fault read refused named =
     elim (cases_lt 4194304 (length all)) [
       | inl long ↦
-          let more = too_long b (omega (arith, long, length-take longest_read b, ap length read.1)) in
-          (b, refl, more.0, named ∙ (too_long all long).1 ∙ sym more.1)
-      | inr short ↦ (all, sym (all_of_it b all read.1 short), refused, named)
+          let same : fault ≡ too_long_fault = one_refusal all fault too_long_fault refused (too_long all long) in
+          (b, refl, too_long_fault, too_long b (omega (arith, long, length-take longest_read b, ap length read.1)), named ∙ ap refusal_line same)
+      | inr short ↦ (all, sym (all_of_it b all read.1 short), fault, refused, named)
     ]
 
-pub refusal_from : (source : End) (now : Option (List ℕ)) (all line : List ℕ) → IsWholeRead source.bytes now all → IsRefused all → line ≡ refusal_line all → IsRefusalOf source line
-refusal_from source now all line read refused named =
-    let told = refusal_told source.bytes now all line read refused named in
-    record { text = told.0; had = told.1; refused = told.2; named = told.3 }
+pub refusal_from : (source : End) (now : Option (List ℕ)) (all line : List ℕ) (fault : TryFault) → IsWholeRead source.bytes now all → IsRefusedFor all fault → line ≡ refusal_line fault → IsRefusalOf source line
+refusal_from source now all line fault read refused named =
+    let told = refusal_told source.bytes now all line fault read refused named in
+    record { text = told.0; had = told.1; fault = told.2; refused = told.3; named = told.4 }
 
 -- a text with a report isn't refused
 not_refused : (source : End) (output : List ℕ) → IsReportFrom source output → IfSome source.bytes (λ text. IsRefused text → ⊥)
@@ -59,31 +68,67 @@ not_refused source output from =
       | Some b ↦ λ had refused. refused from.report.input (subst (λ (t : List ℕ). Says t from.report.input) (sym had) from.report.says)
     ] from.had
 
--- from nothing that is refused, whatever is to follow
-none_refused : (bytes : Option (List ℕ)) (P : Type 0) → IfSome bytes (λ text. IsRefused text → ⊥) → IfSome bytes (λ text. IsRefused text → P)
-none_refused None P h = tt
-none_refused (Some b) P h = λ refused. absurd (h refused)
+-- what a source tells, it tells whatever follows from it
+told_more : (bytes : Option (List ℕ)) (P Q : List ℕ → Type 0) → ((text : List ℕ) → P text → Q text) → IfSome bytes P → IfSome bytes Q
+told_more None P Q more h = tt
+told_more (Some b) P Q more h = more b h
 
 -- whatever the text, it is so
-always : (bytes : Option (List ℕ)) (P : Type 0) → P → IfSome bytes (λ text. IsRefused text → P)
+always : (bytes : Option (List ℕ)) (P : List ℕ → Type 0) → ((text : List ℕ) → P text) → IfSome bytes P
 always None P h = tt
-always (Some b) P h = λ refused. h
+always (Some b) P h = h b
 
 -- two numbers that differ
 differ : {P : Type 0} (status m n : ℕ) → status ≡ m → status ≡ n → eqb m n ≡ false → P
 differ status m n is too apart = absurd (false≢true (sym apart ∙ eq-eqb m n (sym is ∙ too)))
 
+-- what is said of a text that is refused, and of what it is refused for
+abbrev ByText : Call → ℕ → Type 0
+ByText call status = IfSome call.source.bytes (λ text. IsRefused text → IsRefusalStatus status)
+
+abbrev ByFault : Call → ℕ → Type 0
+ByFault call status =
+    IfSome call.source.bytes (λ text. (fault : TryFault) → IsRefusedFor text fault → AnswersRefusal call status fault)
+
 -- what a promise is to a call whose words are a row, which ends at status n
-served : (call : Call) (status n : ℕ) → status ≡ n → eqb n 2 ≡ false → IsRow call.words
-    → EndsAt call n
-    → IfSome call.source.bytes (λ text. IsRefused text → IsRefusalStatus status)
+served : (call : Call) (status n : ℕ) → status ≡ n → eqb n 2 ≡ false → IsRow call.words → EndsAt call n → ByText call status → ByFault call status
     → (status ≢ 6 → call.source_after.faults ≡ call.source.faults) → KeepsPromise call status
-served call status n is apart row ends by_text by_source = record {
+served call status n is apart row ends by_text by_fault by_source = record {
   ends = subst (EndsAt call) (sym is) ends;
   by_words = (λ two. differ status n 2 is two apart, λ no_row. absurd (no_row row));
   by_text = λ _. by_text;
+  by_fault = λ _. by_fault;
   by_source = by_source;
 }
+
+-- a report is of no text that is refused
+report_by_text : (call : Call) (status : ℕ) (output : List ℕ) → IsReportFrom call.source output → ByText call status
+report_by_text call status output from =
+    told_more call.source.bytes _ _ (λ text no refused. absurd (no refused)) (not_refused call.source output from)
+
+report_by_fault : (call : Call) (status : ℕ) (output : List ℕ) → IsReportFrom call.source output → ByFault call status
+report_by_fault call status output from =
+    told_more call.source.bytes _ _ (λ text no fault h. absurd (no (refusal_says_nothing text fault h))) (not_refused call.source output from)
+
+-- a status that is that of a text which is refused
+status_by_text : (call : Call) (status : ℕ) → IsRefusalStatus status → ByText call status
+status_by_text call status is = always call.source.bytes _ (λ text refused. is)
+
+-- and isn't 3
+status_by_fault : (call : Call) (status n : ℕ) → status ≡ n → eqb n 3 ≡ false → IsRefusalStatus status → ByFault call status
+status_by_fault call status n is apart answered =
+    always call.source.bytes _ (λ text fault h. record { answered = answered; line = λ three. differ status n 3 is three apart })
+
+-- the line of a refused text is that of all that it is refused for
+line_by_fault : (call : Call) (status : ℕ) (line : List ℕ) → status ≡ 3 → IsRefusalOf call.source line → PrintsLine line call.sink call.sink_after → ByFault call status
+line_by_fault call status line is from printed =
+    elim call.source.bytes as (λ o. HasText o from.text → IfSome o (λ text. (fault : TryFault) → IsRefusedFor text fault → AnswersRefusal call status fault)) [
+      | None ↦ λ had. tt
+      | Some b ↦ λ had fault h.
+          let also : IsRefusedFor b from.fault = subst (λ (t : List ℕ). IsRefusedFor t from.fault) (sym had) from.refused in
+          let named : line ≡ refusal_line fault = from.named ∙ ap refusal_line (one_refusal b from.fault fault also h) in
+          record { answered = inl is; line = λ _. subst (λ (l : List ℕ). PrintsLine l call.sink call.sink_after) named printed }
+    ] from.had
 
 -- the line of a refused text, printed
 refused : (call : Call) (status : ℕ) (line : List ℕ)
@@ -98,7 +143,8 @@ refused call status line answers printed =
       refusal = answers.2;
       printed = printed.1;
     }))
-    (always call.source.bytes _ (inl printed.0))
+    (status_by_text call status (inl printed.0))
+    (line_by_fault call status line printed.0 answers.2 printed.1)
     (λ _. answers.1.no_fault)
 
 -- a right answer, printed, keeps the promise
@@ -114,7 +160,8 @@ promise call status (Report output) answers (inl printed) =
       report = answers.2;
       printed = printed.1;
     }))
-    (none_refused call.source.bytes _ (not_refused call.source output answers.2))
+    (report_by_text call status output answers.2)
+    (report_by_fault call status output answers.2)
     (λ _. answers.1.no_fault)
 promise call status (Report output) answers (inr printed) =
     served call status 7 printed.0 refl answers.0
@@ -125,27 +172,29 @@ promise call status (Report output) answers (inr printed) =
       report = answers.2;
       printed = printed.1;
     }))
-    (none_refused call.source.bytes _ (not_refused call.source output answers.2))
+    (report_by_text call status output answers.2)
+    (report_by_fault call status output answers.2)
     (λ _. answers.1.no_fault)
 promise call status WordsRefused answers printed = record {
   ends = subst (EndsAt call) (sym printed.0)
       (words_refused (record { no_row = answers.0; unread = answers.1; printed = printed.1 }));
   by_words = (λ _. answers.0, λ _. printed.0);
   by_text = λ row. absurd (answers.0 row);
+  by_fault = λ row. absurd (answers.0 row);
   by_source = λ _. answers.1.faults;
 }
-promise call status TextRefused answers printed =
-    refused call status (codes "text refused\n") answers printed
-promise call status (SchemaFault line) answers printed = refused call status line answers printed
+promise call status (TextRefused line) answers printed = refused call status line answers printed
 promise call status SourceFault answers printed =
     served call status 6 printed.0 refl answers.0
     (source_failed (record { row = answers.0; fault = answers.1; printed = printed.1 }))
-    (always call.source.bytes _ (inr (inl printed.0)))
+    (status_by_text call status (inr (inl printed.0)))
+    (status_by_fault call status 6 printed.0 refl (inr (inl printed.0)))
     (λ other. absurd (other printed.0))
 promise call status OutOfMemory answers printed =
     served call status 8 printed.0 refl answers.0
     (memory_refused (record { row = answers.0; no_fault = answers.1; printed = printed.1 }))
-    (always call.source.bytes _ (inr (inr printed.0)))
+    (status_by_text call status (inr (inr printed.0)))
+    (status_by_fault call status 8 printed.0 refl (inr (inr printed.0)))
     (λ _. answers.1)
 
 -- the answer of what was read is right by what the source had
@@ -153,8 +202,16 @@ pub answer_from : (words : List (List ℕ)) (source source_after : End) (all : L
     → IsTextAnswer all answer → IsAnswerTo words source source_after answer
 answer_from words source source_after all (Report output) row read same right = (row, record { text = all; read = read; no_fault = same }, report_from source source_after.bytes all output read right)
 answer_from words source source_after all WordsRefused row read same right = absurd right
-answer_from words source source_after all TextRefused row read same right =
-    (row, record { text = all; read = read; no_fault = same }, refusal_from source source_after.bytes all (codes "text refused\n") read right.0 right.1)
-answer_from words source source_after all (SchemaFault line) row read same right = (row, record { text = all; read = read; no_fault = same }, refusal_from source source_after.bytes all line read right.0 right.1)
+answer_from words source source_after all (TextRefused line) row read same right =
+    (row, record { text = all; read = read; no_fault = same }, refusal_from source source_after.bytes all line right.0 read right.1 right.2)
 answer_from words source source_after all SourceFault row read same right = absurd right
 answer_from words source source_after all OutOfMemory row read same right = (row, same)
+
+-- the answer to a fault of a text is that to the text
+pub fault_answered : (text : List ℕ) (fault : TryFault) (answer : Answer) → IsRefusedOrMemory text fault → IsFaultAnswer fault answer → IsTextAnswer text answer
+fault_answered text fault (Report output) refused right = absurd right
+fault_answered text fault WordsRefused refused right = absurd right
+fault_answered text fault (TextRefused line) (inl memory) right = absurd (right.0 memory)
+fault_answered text fault (TextRefused line) (inr refused) right = (fault, refused, right.1)
+fault_answered text fault SourceFault refused right = absurd right
+fault_answered text fault OutOfMemory refused right = tt

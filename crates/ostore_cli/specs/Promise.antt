@@ -5,15 +5,18 @@ use Rattle.ostore_base.specs.Faults.{Rose}
 use Rattle.ostore_base.specs.Streams.{appended}
 use Rattle.ostore_graph_model.specs.Graph.{Graph, empty_graph}
 use Rattle.ostore_graph_model.specs.History.{IsLegalHistory, AllCommitted, IsSerial, updates}
-use Rattle.ostore_job_text.specs.declared.input.TryInput.{TryInput}
-use Rattle.ostore_job_text.specs.declared.results.Tail.{Tail}
+use Rattle.ostore_try_input.specs.declared.input.TryInput.{TryInput}
+use Rattle.ostore_run_report.specs.declared.results.Tail.{Tail}
 use Rattle.ostore_job_text.specs.declared.job.JobClient.{JobClient}
-use Rattle.ostore_job_text.specs.declared.results.TxnResult.{TxnResult}
-use Rattle.ostore_job_text.specs.declared.results.TxnResult.TheVariants.{Commit, Read, Abort, GaveUp, NotRun}
-use Rattle.ostore_job_text.specs.Report.{report}
-use Rattle.ostore_job_text.specs.Results.{script_of, committed_of, EndedAtOnce}
-use Rattle.ostore_job_text.specs.FaultLine.{refusal_line}
-use Rattle.ostore_job_text.specs.Spelling.{Says, IsRefused}
+use Rattle.ostore_run_report.specs.declared.results.TxnResult.{TxnResult}
+use Rattle.ostore_run_report.specs.declared.results.TxnResult.TheVariants.{Commit, Read, Abort, GaveUp, NotRun}
+use Rattle.ostore_run_report.specs.Report.{report}
+use Rattle.ostore_run_report.specs.Results.{committed_of, EndedAtOnce}
+use Rattle.ostore_try_input.specs.Scripts.{script_of}
+use Rattle.ostore_try_input.specs.declared.reading.fault.TryFault.{TryFault}
+use Rattle.ostore_try_input.specs.FaultLine.{refusal_line}
+use Rattle.ostore_try_input.specs.Spelling.{Says, IsRefused}
+use Rattle.ostore_try_input.specs.TryFaults.{IsRefusedFor}
 use Rattle.ostore_cli.specs.Commands.{IsRow}
 use Rattle.ostore_cli.specs.Streams.{IsWholeRead, AppendsFront}
 
@@ -94,12 +97,13 @@ pub record IsReportFrom (source : End) (output : List ℕ) : Type 0 where
   pub had : HasText source.bytes text
   pub report : IsReportOf text output
 
--- the line is that of a text which the source had and which is refused
+-- the line says what a text that the source had is refused for
 pub record IsRefusalOf (source : End) (line : List ℕ) : Type 0 where
   pub text : List ℕ
   pub had : HasText source.bytes text
-  pub refused : IsRefused text
-  pub named : line ≡ refusal_line text
+  pub fault : TryFault
+  pub refused : IsRefusedFor text fault
+  pub named : line ≡ refusal_line fault
 
 -- ---- what was printed
 
@@ -133,7 +137,7 @@ pub record AtWordsRefused (call : Call) : Type 0 where
   pub unread : IsUntouched call.source call.source_after
   pub printed : PrintsLine (codes "words refused\n") call.sink call.sink_after
 
--- 3: the text spells no input that is built
+-- 3: the text has a fault, or says no input that is built
 pub record AtTextRefused (call : Call) : Type 0 where
   pub row : IsRow call.words
   pub read : IsReadThrough call.source call.source_after
@@ -174,12 +178,19 @@ pub data EndsAt (call : Call) : ℕ → Type 0 where
 abbrev pub IsRefusalStatus : ℕ → Type 0
 IsRefusalStatus status = (status ≡ 3) ⊎ (status ≡ 6) ⊎ (status ≡ 8)
 
+-- a text that is refused for something is answered so, and the line that says it was printed
+pub record AnswersRefusal (call : Call) (status : ℕ) (fault : TryFault) : Type 0 where
+  pub answered : IsRefusalStatus status
+  pub line : status ≡ 3 → PrintsLine (refusal_line fault) call.sink call.sink_after
+
 -- Everything that a top call promises: how it ends, and that three of the statuses come exactly
--- where they should: 2 by the words, 3 by the text, where the source tells it, and 6 by the source's
--- count of faults.
+-- where they should: 2 by the words, 3 by the text, where the source tells it, with the line of what
+-- the text is refused for, and 6 by the source's count of faults.
 pub record KeepsPromise (call : Call) (status : ℕ) : Type 0 where
   pub ends : EndsAt call status
   pub by_words : (status ≡ 2) ↔ (IsRow call.words → ⊥)
   pub by_text : IsRow call.words
       → IfSome call.source.bytes (λ text. IsRefused text → IsRefusalStatus status)
+  pub by_fault : IsRow call.words → IfSome call.source.bytes
+      (λ text. (fault : TryFault) → IsRefusedFor text fault → AnswersRefusal call status fault)
   pub by_source : status ≢ 6 → call.source_after.faults ≡ call.source.faults

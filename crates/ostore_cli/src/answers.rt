@@ -1,6 +1,6 @@
 //! What a top call answers, and how it is printed.
 
-ghost use Rattle.std.specs.Prelude.{◌≡◌};
+ghost use Rattle.std.specs.Prelude.{◌≡◌, ◌≢◌};
 ghost use Rattle.ostore_cli.specs.Promise.{end_of};
 ghost use Rattle.ostore_cli.specs.inside.Answer.{IsAnswerTo, IsTextAnswer, IsFaultAnswer, IsPrintOf, IsReportPrint, IsLinePrint};
 
@@ -8,8 +8,7 @@ use crate::streams::{InputFault, read_text, write_whole};
 use crate::trying::try_text;
 use crate::words::Words;
 use ostore_base::{Sink, Source, Text};
-use ostore_job_text::{TryFault, print_schema_fault};
-use ostore_schema_layout::SchemaFault;
+use ostore_try_input::{TryFault, print_try_fault};
 use std::alloc::Global;
 
 /// What is to be printed.
@@ -17,9 +16,8 @@ use std::alloc::Global;
 pub enum Answer {
     Report(Text),
     WordsRefused,
-    TextRefused,
-    /// The line that names the schema's fault.
-    SchemaFault(Text),
+    /// The line that says what the text is refused for.
+    TextRefused(Text),
     SourceFault,
     OutOfMemory,
 }
@@ -45,18 +43,27 @@ fn answer_text(alloc: Global, text: &[u8]) -> Answer
 {
     match try_text(alloc, text) {
         Ok(report) => Answer::Report(report),
-        Err(TryFault::Refused) => Answer::TextRefused,
-        Err(TryFault::Schema(fault)) => answer_fault(alloc, &fault),
-        Err(TryFault::OutOfMemory) => Answer::OutOfMemory,
+        Err(fault) => answer_fault(alloc, &fault),
     }
 }
 
-/// The line of a schema's fault.
-fn answer_fault(alloc: Global, fault: &SchemaFault) -> Answer
+/// What a text that gave no report gets for an answer.
+fn answer_fault(alloc: Global, fault: &TryFault) -> Answer
     ensures { IsFaultAnswer fault.now result }
 {
-    match print_schema_fault(alloc, fault) {
-        Ok(line) => Answer::SchemaFault(line),
+    match fault {
+        TryFault::OutOfMemory => Answer::OutOfMemory,
+        _ => answer_line(alloc, fault),
+    }
+}
+
+/// The line of a fault that isn't want of memory.
+fn answer_line(alloc: Global, fault: &TryFault) -> Answer
+    requires { fault.now ≢ TryFault.OutOfMemory }
+    ensures { IsFaultAnswer fault.now result }
+{
+    match print_try_fault(alloc, fault) {
+        Ok(line) => Answer::TextRefused(line),
         Err(_) => Answer::OutOfMemory,
     }
 }
@@ -70,8 +77,7 @@ pub(crate) fn print_answer<K: Sink>(sink: &mut K, answer: Answer) -> u8
     match answer {
         Answer::Report(report) => print_report_text(sink, report.bytes()),
         Answer::WordsRefused => print_line(sink, b"words refused\n", 2),
-        Answer::TextRefused => print_line(sink, b"text refused\n", 3),
-        Answer::SchemaFault(line) => print_line(sink, line.bytes(), 3),
+        Answer::TextRefused(line) => print_line(sink, line.bytes(), 3),
         Answer::SourceFault => print_line(sink, b"source fault\n", 6),
         Answer::OutOfMemory => print_line(sink, b"out of memory\n", 8),
     }

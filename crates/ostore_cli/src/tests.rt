@@ -36,17 +36,12 @@ fn texts_and_their_reports(rt: HostRuntime) -> Result<(), Fail> {
 }
 
 #[test]
-fn refused_texts(rt: HostRuntime) -> Result<(), Fail> {
+fn texts_that_are_not_built(rt: HostRuntime) -> Result<(), Fail> {
     for text in [
         "",
-        "type Part\nid int\njob\nclient a\nclient a\n",
-        "type Part\nid int\njob\nclient a tries 0\n",
         "type Part\nid int\njob\nclient a\nbegin\nfind $p 1.1\ncommit\n",
         "type Part\nnext ref Part\njob\n",
         "type Part\ntype Box\njob\n",
-        "type Part\nid int\njob\nclient a\nbegin\n",
-        "type Part\nid int\njob\nclient a\nbegin\nnew $p Part 0\ncommit\n",
-        "type Part\nid int\njob\nclient a\nturns b\n",
     ] {
         expect_run(&rt, rt.alloc(), text, 3, "text refused\n")?;
     }
@@ -158,6 +153,9 @@ fn the_longest_text(rt: HostRuntime) -> Result<(), Fail> {
         let mut source = ostore_base::MemSource::new(text, Vec::new(alloc));
         let mut sink = SlowSink::new(alloc, 0)?;
         assert_eq!(rt; run_over(alloc, &mut source, &mut sink)?, status);
+        if status == 3 {
+            assert!(rt; sink.bytes() == b"job fault 7 TooLong at 4194304\n".as_slice());
+        }
         // 512 whole pieces, and the read of one byte that tells the two lengths apart
         assert_eq!(rt; source.calls(), 513);
     }

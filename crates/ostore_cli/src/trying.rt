@@ -1,25 +1,23 @@
 //! Running the text of `try`.
 
-ghost use Rattle.std.specs.Prelude.{◌≡◌, ℕ, List, None, Some, IfOk, IsErrOf};
-ghost use Rattle.ostore_job_text.specs.Spelling.{Says, IsRefused, schema_fault};
-ghost use Rattle.ostore_schema_layout.specs.declared.fault.SchemaFault.{SchemaFault};
+ghost use Rattle.std.specs.Prelude.{ℕ, List, IfOk, IfErr};
+ghost use Rattle.ostore_try_input.specs.Spelling.{Says};
+ghost use Rattle.ostore_try_input.specs.TryFaults.{IsRefusedOrMemory};
 ghost use Rattle.ostore_cli.specs.Promise.{IsReportOf};
 ghost use Rattle.ostore_cli.specs.inside.Outcomes.{AreBuilt};
 
 mod running;
 
 use ostore_base::{OutOfMemory, Text};
-use ostore_job_text::{Tail, TryFault, TryInput, print_report, read_try_input};
+use ostore_run_report::{Tail, print_report};
+use ostore_try_input::{TryFault, TryInput, read_try_input};
 use running::run_job;
 use std::alloc::Global;
 
 /// Runs what a text asks for on a fresh database in memory, and gives the report.
 pub(crate) fn try_text(alloc: Global, text: &[u8]) -> Result<Text, TryFault>
     ensures report { IfOk result (λ report. IsReportOf text.now report) }
-    ensures refused { IsErrOf result TryFault.Refused
-        → IsRefused text.now × (schema_fault text.now ≡ None) }
-    ensures schema { (fault : SchemaFault) → IsErrOf result (TryFault.Schema fault)
-        → IsRefused text.now × (schema_fault text.now ≡ Some fault) }
+    ensures refused { IfErr result (λ fault. IsRefusedOrMemory text.now fault) }
 {
     let input = read_try_input(alloc, text)?;
     match report_on(alloc, &input) {

@@ -1,7 +1,6 @@
 -- What the contracts of public calls rest on.
 pub mod Limits
 pub mod JobFaults
-pub mod CommandWords
 pub mod Canonical
 pub mod WordsSaid
 pub mod LinesSaid
@@ -9,9 +8,5 @@ pub mod Drafted
 pub mod ParsedJob
 pub mod LawfulJob
 pub mod JobSpelling
-pub mod Spelling
-pub mod Results
-pub mod Report
-pub mod FaultLine
 -- What only ties private code.
 pub mod inside

@@ -1,13 +1,14 @@
 -- The answer to a command line, and what printing it comes to.
-use Rattle.std.specs.Prelude.{◌≡◌, ◌⊎◌, ℕ, List, codes}
+use Rattle.std.specs.Prelude.{◌≡◌, ◌≢◌, ◌⊎◌, ℕ, List, codes}
 use Rattle.ostore_base.specs.Faults.{Rose}
-use Rattle.ostore_schema_layout.specs.declared.fault.SchemaFault.{SchemaFault as Fault}
-use Rattle.ostore_job_text.specs.FaultLine.{fault_line, refusal_line}
-use Rattle.ostore_job_text.specs.Spelling.{IsRefused}
+use Rattle.ostore_try_input.specs.declared.reading.fault.TryFault.{TryFault}
+use Rattle.ostore_try_input.specs.declared.reading.fault.TryFault.TheVariants as faults
+use Rattle.ostore_try_input.specs.FaultLine.{refusal_line}
+use Rattle.ostore_try_input.specs.TryFaults.{IsRefusedFor}
 use Rattle.ostore_cli.specs.Commands.{IsRow}
 use Rattle.ostore_cli.specs.Promise.{End, IsReportOf, IsReportFrom, IsRefusalOf, IsReadThrough, IsUntouched, Prints, PrintsFront, PrintsLine}
 use Rattle.ostore_cli.specs.declared.answers.Answer.{Answer}
-use Rattle.ostore_cli.specs.declared.answers.Answer.TheVariants.{Report, WordsRefused, TextRefused, SchemaFault, SourceFault, OutOfMemory}
+use Rattle.ostore_cli.specs.declared.answers.Answer.TheVariants.{Report, WordsRefused, TextRefused, SourceFault, OutOfMemory}
 
 -- the answer is right by the words and by what the source had
 abbrev pub IsAnswerTo : List (List ℕ) → End → End → Answer → Type 0
@@ -15,32 +16,29 @@ IsAnswerTo words source source_after (Report output) =
     IsRow words × IsReadThrough source source_after × IsReportFrom source output
 IsAnswerTo words source source_after WordsRefused =
     (IsRow words → ⊥) × IsUntouched source source_after
-IsAnswerTo words source source_after TextRefused =
-    IsRow words × IsReadThrough source source_after × IsRefusalOf source (codes "text refused\n")
-IsAnswerTo words source source_after (SchemaFault line) =
+IsAnswerTo words source source_after (TextRefused line) =
     IsRow words × IsReadThrough source source_after × IsRefusalOf source line
 IsAnswerTo words source source_after SourceFault =
     IsRow words × Rose source.faults source_after.faults
 IsAnswerTo words source source_after OutOfMemory =
     IsRow words × (source_after.faults ≡ source.faults)
 
--- what a text gets for an answer: its report, or its line where it is refused
+-- what a text gets for an answer: its report, or the line of what it is refused for
 abbrev pub IsRefusedText : List ℕ → List ℕ → Type 0
-IsRefusedText text line = IsRefused text × (line ≡ refusal_line text)
+IsRefusedText text line = (fault : TryFault) × IsRefusedFor text fault × (line ≡ refusal_line fault)
 
 abbrev pub IsTextAnswer : List ℕ → Answer → Type 0
 IsTextAnswer text (Report output) = IsReportOf text output
 IsTextAnswer text WordsRefused = ⊥
-IsTextAnswer text TextRefused = IsRefusedText text (codes "text refused\n")
-IsTextAnswer text (SchemaFault line) = IsRefusedText text line
+IsTextAnswer text (TextRefused line) = IsRefusedText text line
 IsTextAnswer text SourceFault = ⊥
 IsTextAnswer text OutOfMemory = Unit {0}
 
-abbrev pub IsFaultAnswer : Fault → Answer → Type 0
+-- what a fault gets for an answer: its line, unless it is want of memory
+abbrev pub IsFaultAnswer : TryFault → Answer → Type 0
 IsFaultAnswer fault (Report output) = ⊥
 IsFaultAnswer fault WordsRefused = ⊥
-IsFaultAnswer fault TextRefused = ⊥
-IsFaultAnswer fault (SchemaFault line) = line ≡ fault_line fault
+IsFaultAnswer fault (TextRefused line) = (fault ≢ faults.OutOfMemory) × (line ≡ refusal_line fault)
 IsFaultAnswer fault SourceFault = ⊥
 IsFaultAnswer fault OutOfMemory = Unit {0}
 
@@ -59,9 +57,7 @@ IsPrintOf (Report output) sink sink_after status =
     IsReportPrint output sink sink_after status
 IsPrintOf WordsRefused sink sink_after status =
     IsLinePrint (codes "words refused\n") 2 sink sink_after status
-IsPrintOf TextRefused sink sink_after status =
-    IsLinePrint (codes "text refused\n") 3 sink sink_after status
-IsPrintOf (SchemaFault line) sink sink_after status = IsLinePrint line 3 sink sink_after status
+IsPrintOf (TextRefused line) sink sink_after status = IsLinePrint line 3 sink sink_after status
 IsPrintOf SourceFault sink sink_after status =
     IsLinePrint (codes "source fault\n") 6 sink sink_after status
 IsPrintOf OutOfMemory sink sink_after status =

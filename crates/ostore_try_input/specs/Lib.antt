@@ -1,0 +1,5 @@
+-- What the contracts of public calls rest on.
+pub mod Spelling
+pub mod Scripts
+pub mod TryFaults
+pub mod FaultLine
