@@ -1,0 +1,11 @@
+//! A client's cache: the pages that it has, by their last use.
+#![tactic(auto)]
+
+mod cache;
+mod entries;
+
+pub use cache::Cache;
+pub use entries::{CachedPage, Hold};
+
+#[cfg(test)]
+mod tests;
