@@ -1,0 +1,17 @@
+pub mod EntryLaws
+pub mod TiedLaws
+pub mod RecordLaws
+pub mod ReleaseLaws
+pub mod KeptLaws
+pub mod SortLaws
+pub mod GoesLaws
+pub mod SeenLaws
+pub mod FitLaws
+pub mod OldestLaws
+pub mod SettleLaws
+pub mod BringLaws
+pub mod TakeLaws
+pub mod NewLaws
+pub mod OwnLaws
+pub mod BeginLaws
+pub mod CommitLaws
