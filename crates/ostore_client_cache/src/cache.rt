@@ -9,9 +9,10 @@ ghost use Rattle.ostore_client_cache.specs.Entries.{used_image, first_as, hold_o
 ghost use Rattle.ostore_client_cache.specs.Caches.{cached, fresh, surplus, used_pages, without_one};
 ghost use Rattle.ostore_client_cache.specs.declared.entries.Hold.TheVariants.{Retained, InUse, Owned};
 
+use crate::boxed_image::BoxedImage;
 use crate::entries::{
-    CachedPage, Hold, forget_entry, image_in_use, is_owner, is_used, own_page, retain_entry, set_image, store,
-    use_entry,
+    CachedPage, Hold, forget_entry, image_in_use, is_owner, is_used, own_page, retain_entry,
+    set_image, store, use_entry,
 };
 use lru::LruCache;
 use ostore_base::{OutOfMemory, PageImage, PageNo};
@@ -23,6 +24,8 @@ use std::num::NonZeroUsize;
 /// how many there may be. There is room for one more, which is there while a page comes in.
 #[derive(Drop)]
 pub struct Cache {
+    /// Where the images of its pages are.
+    alloc: Global,
     entries: LruCache<u32, CachedPage>,
     /// How many of them are in use.
     used: u32,
@@ -49,6 +52,7 @@ impl Cache {
         let room = NonZeroUsize::MIN.saturating_add(most as usize);
         let entries = LruCache::new(alloc, room)?;
         Ok(Cache {
+            alloc,
             entries,
             used: 0,
             most,
@@ -76,9 +80,10 @@ impl Cache {
         image_in_use(&self.entries, page.0)
     }
 
-    /// How many pages there may be.
+    /// How many pages there may be: at most 16,384.
     pub fn most(&self) -> u32
-        ensures { result ≡ self.now.most }
+        ensures most { result ≡ self.now.most }
+        ensures few { result ≤ most_pages }
     {
         self.most
     }
@@ -119,8 +124,9 @@ impl Cache {
         ensures ok { OnOk result (self.new ≡ cached ((page.0, fresh) ∷ self.old.pages) self.old.most) }
         ensures err { OnErr result (self.new ≡ self.old) }
     {
+        let image = BoxedImage::zeroed(self.alloc)?;
         let entry = CachedPage {
-            image: PageImage::zeroed(),
+            image,
             hold: Hold::Retained,
         };
         self.entries.put(page.0, entry)?;

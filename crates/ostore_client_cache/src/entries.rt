@@ -7,6 +7,7 @@ ghost use Rattle.ostore_base.specs.declared.page.TheConstants.{PAGE_SIZE};
 ghost use Rattle.ostore_client_cache.specs.Entries.{used_image, held_as, with_bytes, first_as, is_used, is_in_use, is_retained, is_owner, imaged_as};
 ghost use Rattle.ostore_client_cache.specs.declared.entries.Hold.TheVariants.{Retained, InUse, Owned};
 
+use crate::boxed_image::BoxedImage;
 use lru::LruCache;
 use ostore_base::{PAGE_SIZE, PageImage};
 
@@ -22,9 +23,9 @@ pub enum Hold {
 }
 
 /// A page that a client has.
-#[derive(Clone, Copy, Debug)]
+#[derive(Debug, Drop)]
 pub struct CachedPage {
-    pub image: PageImage,
+    pub image: BoxedImage,
     pub hold: Hold,
 }
 
@@ -57,8 +58,8 @@ pub(crate) fn image_in_use(cache: &LruCache<u32, CachedPage>, page: u32) -> Opti
     let entry = cache.peek(&page)?;
     match entry.hold {
         Hold::Retained => None,
-        Hold::InUse => Some(&entry.image),
-        Hold::Owned => Some(&entry.image),
+        Hold::InUse => Some(entry.image.get()),
+        Hold::Owned => Some(entry.image.get()),
     }
 }
 
@@ -82,7 +83,7 @@ pub(crate) fn set_image(cache: &mut LruCache<u32, CachedPage>, page: u32, image:
     ensures capacity { cache.new.cap ≡ cache.old.cap }
 {
     if let Some(entry) = cache.peek_mut(&page) {
-        entry.image = *image;
+        entry.image.set(image);
     }
 }
 
@@ -95,7 +96,7 @@ pub(crate) fn store(cache: &mut LruCache<u32, CachedPage>, page: u32, at: usize,
     ensures capacity { cache.new.cap ≡ cache.old.cap }
 {
     if let Some(entry) = cache.peek_mut(&page) {
-        entry.image.bytes[at..at + bytes.len()].copy_from_slice(bytes);
+        entry.image.write(at, bytes);
     }
 }
 

@@ -1,10 +1,10 @@
-use Rattle.std.proofs.Common.{◌≡◌, ◌∷◌, ◌+◌, ℕ, List, None, nat_eq, length, sym, ap, ◌∙◌, arith}
+use Rattle.std.proofs.Common.{◌≡◌, ◌∷◌, ◌+◌, ℕ, List, None, nat_eq, length, ap, ◌∙◌, arith}
 use Rattle.std.specs.Map.{lookup}
 use Rattle.lru.specs.LruCache.{LruCache}
 use Rattle.ostore_client_cache.specs.declared.entries.CachedPage.{CachedPage}
 use Rattle.ostore_client_cache.specs.declared.entries.Hold.TheVariants.{Retained}
 use Rattle.ostore_client_cache.specs.Caches.{Cached, cached, fresh, used_pages}
-use Rattle.ostore_client_cache.proofs.CountLaws.{admitted, used_few, used_more}
+use Rattle.ostore_client_cache.proofs.CountLaws.{admitted, used_more}
 use Rattle.ostore_client_cache.proofs.CacheLaws.{fresh_is}
 use Rattle.ostore_client_cache.proofs.cache.Cache.admit.Goals as goal
 
@@ -12,7 +12,7 @@ pub invariant_of-self-2 : goal.invariant_of-self-2
 invariant_of-self-2 c =
     let entries : List (ℕ × CachedPage) = c.self.inside.entries.entries in
     let page : ℕ = c.args.page.0 in
-    let value : CachedPage = record { image = c.zeroed.result; hold = Retained } in
+    let value : CachedPage = record { image = c.in_ok-image.image; hold = Retained } in
     let pages : entries ≡ c.args.self.now.pages = ap (λ (v : Cached). v.pages) c.self.view_is in
     let most : c.self.inside.most ≡ c.args.self.now.most = ap (λ (v : Cached). v.most) c.self.view_is in
     let apart : lookup (nat_eq page) entries ≡ None = ap (lookup (nat_eq page)) pages ∙ c.requires.apart in
@@ -34,7 +34,7 @@ pub returns-clause-ok : goal.returns-clause-ok
 returns-clause-ok c =
     let entries : List (ℕ × CachedPage) = c.self.inside.entries.entries in
     let page : ℕ = c.args.page.0 in
-    let value : CachedPage = record { image = c.zeroed.result; hold = Retained } in
+    let value : CachedPage = record { image = c.in_ok-image.image; hold = Retained } in
     let pages : entries ≡ c.args.self.now.pages = ap (λ (v : Cached). v.pages) c.self.view_is in
     let most : c.self.inside.most ≡ c.args.self.now.most = ap (λ (v : Cached). v.most) c.self.view_is in
     let apart : lookup (nat_eq page) entries ≡ None = ap (lookup (nat_eq page)) pages ∙ c.requires.apart in
@@ -43,5 +43,5 @@ returns-clause-ok c =
     let new : c.put.new.self.entries ≡ (page, value) ∷ entries =
     ap (λ (l : LruCache ℕ CachedPage). l.entries) c.in_ok-put.ensures.entries ∙ admitted entries c.self.inside.entries.cap c.self.inside.most page value c.self.invariant.room apart (omega arith) in
     ap (λ (l : List (ℕ × CachedPage)). cached l c.self.inside.most) new
-    ∙ ap (λ (e : CachedPage). cached ((page, e) ∷ entries) c.self.inside.most) (fresh_is c.zeroed.result c.zeroed.ensures)
+    ∙ ap (λ (e : CachedPage). cached ((page, e) ∷ entries) c.self.inside.most) (fresh_is c.in_ok-image.image c.in_ok-image.ensures)
     ∙ ap (λ (v : Cached). cached ((page, fresh) ∷ v.pages) v.most) c.self.view_is

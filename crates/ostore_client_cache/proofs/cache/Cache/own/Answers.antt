@@ -1,7 +1,7 @@
-use Rattle.std.proofs.Common.{◌≡◌, true, nat_eq, Some, sym, ap, refl, ◌∙◌}
+use Rattle.std.proofs.Common.{◌≡◌, true, nat_eq, sym, ap, ◌∙◌}
 use Rattle.std.specs.Map.{lookup, set_value}
 use Rattle.ostore_client_cache.specs.declared.entries.Hold.TheVariants.{Owned}
-use Rattle.ostore_client_cache.specs.Entries.{held_as, is_used, is_in_use}
+use Rattle.ostore_client_cache.specs.Entries.{held_as, is_in_use}
 use Rattle.ostore_client_cache.specs.Caches.{Cached, cached}
 use Rattle.ostore_client_cache.proofs.CacheLaws.{changes, used_there, if_some, view_as}
 use Rattle.ostore_client_cache.proofs.cache.Cache.own.Goals as goal

@@ -1,4 +1,4 @@
-use Rattle.std.proofs.Common.{sym, ◌∙◌, arith}
+use Rattle.std.proofs.Common.{sym, ◌∙◌}
 use Rattle.ostore_client_cache.proofs.CacheLaws.{retains, retains_still}
 use Rattle.ostore_client_cache.proofs.cache.Cache.retain.Goals as goal
 
