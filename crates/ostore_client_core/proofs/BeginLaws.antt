@@ -1,5 +1,5 @@
 -- An attempt that begins: no page is in use.
-use Rattle.std.proofs.Common.{◌≡◌, ◌≤◌, ℕ, true, false, nat_eq, List, [], length, Option, Some, None, refl, sym, ap, subst, ◌∙◌, arith}
+use Rattle.std.proofs.Common.{◌≡◌, ◌≤◌, ℕ, false, nat_eq, List, [], length, Option, Some, None, sym, ap, subst, ◌∙◌, arith}
 use Rattle.std.specs.Map.{lookup}
 use Rattle.std.proofs.lemmas.Bool.{false≢true}
 use Rattle.ostore_base.specs.declared.page.PageImage.{PageImage}
@@ -14,7 +14,7 @@ use Rattle.ostore_client_cache.specs.declared.entries.Hold.{Hold}
 use Rattle.ostore_client_cache.specs.declared.entries.Hold.TheVariants.{Retained, InUse, Owned}
 use Rattle.ostore_client_cache.specs.Entries.{is_used, is_in_use}
 use Rattle.ostore_client_core.specs.Clients.{ClientView, entry_of, stored_image, IsAbsent, IsTied, IsTiedBy, IsIdle, IsOwn, AreUsedFirst}
-use Rattle.ostore_client_core.specs.Attempts.{IsBase, Attempts}
+use Rattle.ostore_client_core.specs.Attempts.{Attempts}
 use Rattle.ostore_client_core.proofs.EntryLaws.{Pages, none_some}
 use Rattle.ostore_client_core.proofs.GoesLaws.{own_still}
 

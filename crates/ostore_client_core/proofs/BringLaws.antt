@@ -1,5 +1,5 @@
 -- Pages that come into use.
-use Rattle.std.proofs.Common.{◌≡◌, ◌≢◌, ◌⊎◌, ℕ, zero, suc, ◌+◌, ◌-◌, ◌<◌, ◌≤◌, Bool, true, false, cond, nat_eq, List, [], ◌∷◌, ◌++◌, length, Option, Some, None, refl, sym, ap, subst, ◌∙◌, arith, inl, inr}
+use Rattle.std.proofs.Common.{◌≡◌, ◌≢◌, ◌⊎◌, ℕ, zero, suc, ◌-◌, ◌<◌, ◌≤◌, Bool, true, false, cond, nat_eq, List, [], ◌∷◌, length, Option, Some, None, refl, sym, ap, subst, ◌∙◌, arith, inl, inr}
 use Rattle.std.specs.Prelude.{IsSome, slice_get}
 use Rattle.std.specs.List.{IsDistinct}
 use Rattle.std.specs.Map.{lookup, remove_entry, set_value, keys_of}
@@ -9,29 +9,29 @@ use Rattle.lru.specs.LruCache.{last_entry}
 use Rattle.ostore_base.specs.declared.numbers.PageNo.{PageNo}
 use Rattle.ostore_base.specs.declared.page.PageImage.{PageImage}
 use Rattle.ostore_schema_layout.specs.declared.schema.Schema.{Schema}
-use Rattle.ostore_address_space.specs.Frames.{ArePaired, KeepsFrames, frame_of}
-use Rattle.ostore_relocation.specs.Forms.{ComesIn, IsResidentPage, stored_form}
+use Rattle.ostore_address_space.specs.Frames.{ArePaired, KeepsFrames}
+use Rattle.ostore_relocation.specs.Forms.{IsResidentPage, stored_form}
 use Rattle.ostore_page_service.specs.History.{Agrees, IsReached}
 use Rattle.ostore_page_service.specs.declared.answers.Claim.{Claim}
 use Rattle.ostore_page_service.specs.declared.answers.Claim.TheVariants as claim
-use Rattle.ostore_page_service.specs.Told.{Claims, Side, Told, SameService, SameRecords, SameElsewhere, SamePages, InUse, DropsCopy}
+use Rattle.ostore_page_service.specs.Told.{Claims, Side, Told, SameService, SameElsewhere, InUse}
 use Rattle.ostore_graph_model.specs.declared.commands.Script.{Script}
 use Rattle.ostore_graph_model.specs.declared.history.Entry.{Entry}
 use Rattle.ostore_client_cache.specs.declared.entries.CachedPage.{CachedPage}
 use Rattle.ostore_client_cache.specs.declared.entries.Hold.{Hold}
 use Rattle.ostore_client_cache.specs.declared.entries.Hold.TheVariants as hold
 use Rattle.ostore_client_cache.specs.Entries.{is_used, is_in_use, imaged_as, held_as, first_as, hold_of}
-use Rattle.ostore_client_cache.specs.Caches.{fresh, oldest, surplus, used_pages, without_one}
+use Rattle.ostore_client_cache.specs.Caches.{fresh, oldest, surplus, without_one}
 use Rattle.ostore_client_cache.proofs.CountLaws.{long_first, long_removed, long_set}
 use Rattle.ostore_client_core.specs.Cells.{HasCellsOf}
 use Rattle.ostore_client_core.specs.Kinds.{graph_meaning}
-use Rattle.ostore_client_core.specs.Clients.{ClientView, client_view, with_pages, entry_of, stored_image, is_page_used, IsResident, IsAbsent, IsRetained, IsTaken, IsTied, IsTiedBy, IsOwn, AreUsedFirst}
-use Rattle.ostore_client_core.specs.Attempts.{seen, IsBase, Attempts, MayBe, Narrows}
-use Rattle.ostore_client_core.specs.Calls.{Drops, IsFitPage, Settles, Takes, FindsNoFrame, LetsGo, trimmed}
-use Rattle.ostore_client_core.proofs.EntryLaws.{Pages, none_some, some_of, IsThere, there, held_there, hold_there, first_is, first_here, first_other, front_here, front_other, gone_here, gone_other, set_here, set_other, first_used, first_less}
+use Rattle.ostore_client_core.specs.Clients.{ClientView, with_pages, entry_of, stored_image, is_page_used, IsResident, IsAbsent, IsRetained, IsTied, IsTiedBy, IsOwn, AreUsedFirst}
+use Rattle.ostore_client_core.specs.Attempts.{seen, IsBase, Attempts, Narrows}
+use Rattle.ostore_client_core.specs.Calls.{Drops, IsFitPage, Settles, Takes, trimmed}
+use Rattle.ostore_client_core.proofs.EntryLaws.{Pages, none_some, some_of, held_there, hold_there, first_is, first_here, first_other, front_here, front_other, gone_here, gone_other, set_here, first_used, first_less}
 use Rattle.ostore_client_core.proofs.OldestLaws.{IsOldest}
 use Rattle.ostore_client_core.proofs.TiedLaws.{SameAt}
-use Rattle.ostore_client_core.proofs.GoesLaws.{Extends, KeepsPage, SettlesPage, Goes, GoesOn, goes_own, same_stored, same_resident}
+use Rattle.ostore_client_core.proofs.GoesLaws.{Extends, KeepsPage, Goes, GoesOn, goes_own, same_stored, same_resident}
 use Rattle.ostore_client_core.proofs.SeenLaws.{narrows, seen_used, seen_idle, seen_kept}
 use Rattle.ostore_client_core.proofs.FitLaws.{valid_fits}
 

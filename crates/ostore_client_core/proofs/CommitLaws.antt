@@ -1,6 +1,6 @@
 -- A commit of what a client has made.
-use Rattle.std.proofs.Common.{◌≡◌, ◌≢◌, ◌⊎◌, ◌↔◌, ℕ, zero, suc, ◌+◌, ◌<◌, ◌≤◌, Bool, true, false, cond, nat_eq, List, [], ◌∷◌, length, Option, Some, None, refl, sym, ap, subst, ◌∙◌, arith, inl, inr}
-use Rattle.std.specs.Prelude.{slice_get, IsSome, IsTrue, All}
+use Rattle.std.proofs.Common.{◌≡◌, ◌↔◌, ℕ, cond, List, length, Option, Some, None, refl, sym, ap, subst, ◌∙◌, arith, inl, inr}
+use Rattle.std.specs.Prelude.{slice_get, IsSome, IsTrue}
 use Rattle.std.specs.Option.{option_map}
 use Rattle.std.proofs.lemmas.Bool.{cases_lt, false≢true}
 use Rattle.std.proofs.lemmas.Option.{slice_get_past}
@@ -17,9 +17,9 @@ use Rattle.ostore_graph_model.specs.Valid.{IsValid}
 use Rattle.ostore_client_cache.specs.declared.entries.CachedPage.{CachedPage}
 use Rattle.ostore_client_cache.specs.declared.entries.Hold.{Hold}
 use Rattle.ostore_client_cache.specs.declared.entries.Hold.TheVariants.{Retained, InUse, Owned}
-use Rattle.ostore_client_cache.specs.Entries.{is_owner, is_owned, is_used}
+use Rattle.ostore_client_cache.specs.Entries.{is_owner}
 use Rattle.ostore_client_core.specs.Kinds.{graph_meaning}
-use Rattle.ostore_client_core.specs.Clients.{ClientView, entry_of, stored_image, IsTied, IsTiedBy, IsOwn}
+use Rattle.ostore_client_core.specs.Clients.{ClientView, entry_of, stored_image, IsTied, IsTiedBy}
 use Rattle.ostore_client_core.specs.Attempts.{seen_as, seen_entry, seen, seen_list, IsBase, Attempts, MayBe}
 use Rattle.ostore_client_core.specs.Commits.{written_by, WritesOwned, FitsFor}
 use Rattle.ostore_client_core.proofs.EntryLaws.{none_some}

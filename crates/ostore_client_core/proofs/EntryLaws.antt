@@ -1,5 +1,5 @@
 -- What is looked up in a client's pages once one of them is held otherwise.
-use Rattle.std.proofs.Common.{◌≡◌, ◌≢◌, ◌⊎◌, ℕ, ◌+◌, ◌≤◌, Bool, true, false, cond, eqb, nat_eq, List, [], ◌∷◌, ◌++◌, length, Option, Some, None, refl, sym, ap, subst, ◌∙◌, inl, inr, arith}
+use Rattle.std.proofs.Common.{◌≡◌, ◌≢◌, ℕ, Bool, true, false, cond, eqb, nat_eq, List, [], ◌∷◌, ◌++◌, Option, Some, None, refl, sym, ap, subst, ◌∙◌, inl, inr}
 use Rattle.std.specs.Prelude.{IsSome, IfSome}
 use Rattle.std.specs.List.{AllByRecursion, IsDistinct}
 use Rattle.std.specs.Map.{lookup, remove_entry, set_value, keys_of}
@@ -10,10 +10,8 @@ use Rattle.std.proofs.lemmas.Bool.{cases_eq, eq-eqb, ne_eqb, eqb-true, false≢t
 use Rattle.std.proofs.lemmas.Option.{same_Some}
 use Rattle.ostore_client_cache.specs.declared.entries.CachedPage.{CachedPage}
 use Rattle.ostore_client_cache.specs.declared.entries.Hold.{Hold}
-use Rattle.ostore_client_cache.specs.declared.entries.Hold.TheVariants.{Retained, InUse, Owned}
-use Rattle.ostore_client_cache.specs.Entries.{is_used, is_in_use, is_owned, held_as, pair_as, entry_as, first_as, hold_of}
+use Rattle.ostore_client_cache.specs.Entries.{is_used, is_in_use, is_owned, held_as, pair_as, first_as, hold_of}
 use Rattle.ostore_client_cache.specs.Caches.{used_pages}
-use Rattle.ostore_client_cache.proofs.CountLaws.{bit, used_more}
 use Rattle.ostore_client_core.specs.Clients.{AreUsedFirst}
 
 abbrev pub Pages : Type 0

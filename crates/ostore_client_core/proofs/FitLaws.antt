@@ -1,9 +1,9 @@
 -- The pages of a valid list can be relocated, and their cells are the schema's.
-use Rattle.std.proofs.Common.{◌≡◌, ◌≢◌, ◌⊎◌, ℕ, zero, suc, ◌+◌, ◌-◌, ◌*◌, ◌<◌, ◌≤◌, ◌&&◌, ◌||◌, Bool, true, false, cond, eqb, leb, not, List, [], ◌∷◌, ◌++◌, length, map, take, drop, drop-cons, get_or, Option, Some, None, refl, sym, ap, subst, ◌∙◌, arith, inl, inr}
-use Rattle.std.specs.Prelude.{◌/◌, IsTrue, slice_get}
+use Rattle.std.proofs.Common.{◌≡◌, ◌≢◌, ◌⊎◌, ℕ, zero, suc, ◌+◌, ◌-◌, ◌*◌, ◌<◌, ◌≤◌, ◌&&◌, ◌||◌, Bool, true, false, cond, eqb, leb, not, List, [], ◌∷◌, ◌++◌, length, map, take, drop, drop-cons, get_or, Some, None, refl, sym, ap, subst, ◌∙◌, arith, inl, inr}
+use Rattle.std.specs.Prelude.{slice_get}
 use Rattle.std.specs.List.{find, flat_map, filter, range_with_len, All, AllByRecursion}
 use Rattle.std.specs.Option.{option_map}
-use Rattle.std.proofs.lemmas.Bool.{cases_eq, cases_lt, eq-eqb, ne_eqb, eqb-true, le-leb, leb-true, and_parts, false≢true}
+use Rattle.std.proofs.lemmas.Bool.{cases_eq, eq-eqb, ne_eqb, eqb-true, leb-true, and_parts, false≢true}
 use Rattle.std.proofs.lemmas.List.{get_or-drop}
 use Rattle.std.proofs.lemmas.List.Elements.{All-from_recursion, recursion_from_All}
 use Rattle.std.proofs.lemmas.Option.{get_or_from_slice_get, slice_get_within, same_Some}
@@ -15,25 +15,24 @@ use Rattle.ostore_page_tags.specs.Rows.{row_in, rows_of}
 use Rattle.ostore_page_tags.specs.Cells.{Cell, cells_of, between}
 use Rattle.ostore_page_tags.specs.Rules.{IsPage, is_chunk_code}
 use Rattle.ostore_page_tags.specs.PageLists.{bytes_at}
-use Rattle.ostore_page_tags.specs.Allocated.{IsAllocated, IsFreePage}
-use Rattle.ostore_page_tags.proofs.bytes.ImageLaws.{SameOn, number_at-same, between_read}
-use Rattle.ostore_page_tags.proofs.shape.PageShape.{Shape, IsPage-shape, rows_in, end_in, offset_in, offset_order, offset_below}
+use Rattle.ostore_page_tags.specs.Allocated.{IsFreePage}
+use Rattle.ostore_page_tags.proofs.bytes.ImageLaws.{number_at-same, between_read}
+use Rattle.ostore_page_tags.proofs.shape.PageShape.{IsPage-shape, rows_in, end_in, offset_in, offset_order, offset_below}
 use Rattle.ostore_page_tags.proofs.parts.ApartLaws.{IsPage-AreApart}
 use Rattle.ostore_page_tags.proofs.parts.CellLaws.{cells_are}
 use Rattle.ostore_page_tags.proofs.parts.CellLaws as tags
 use Rattle.ostore_page_tags.proofs.walks.NthLaws.{rows_counted}
 use Rattle.ostore_schema_layout.specs.declared.schema.Schema.{Schema}
 use Rattle.ostore_schema_layout.specs.Cells.{HasCode, code_size, pointers_of}
-use Rattle.ostore_relocation.specs.Places.{LieBetween, holds_objects, root_place, name_length, root_pointer, row_pointers, cell_pointers, page_pointers}
+use Rattle.ostore_relocation.specs.Places.{LieBetween, holds_objects, root_place, name_length, root_pointer, row_pointers, cell_pointers}
 use Rattle.ostore_page_tags.specs.PagePointers.{root_pointers}
 use Rattle.ostore_relocation.proofs.PlaceLaws.{lie_code, lie_order}
 use Rattle.ostore_relocation.proofs.PageLaws.{all_at-range, row_of_schema, row_read}
 use Rattle.ostore_page_tags.proofs.changes.DeadLaws.{stop_in}
 use Rattle.ostore_relocation.specs.Pointers.{target}
-use Rattle.ostore_relocation.specs.Fitness.{HasCells, IsCellOf, IsFit, LeadToPages, LeadsToPages}
+use Rattle.ostore_relocation.specs.Fitness.{HasCells, IsCellOf, IsFit, LeadToPages}
 use Rattle.ostore_relocation.proofs.FitLaws.{all_fit}
-use Rattle.ostore_graph_model.specs.Addresses.{PlacedCell, placed, begins_at, cell_in, cell_at}
-use Rattle.ostore_graph_model.specs.CellRules.{is_written}
+use Rattle.ostore_graph_model.specs.Addresses.{placed, begins_at, cell_in, cell_at}
 use Rattle.ostore_graph_model.specs.FixedPages.{RootRow, root_at, is_unnamed, roots_of}
 use Rattle.ostore_graph_model.specs.Chunks.{pointer_at}
 use Rattle.ostore_graph_model.specs.LawsOfCells.{LeadsToPage}

@@ -1,13 +1,12 @@
 -- A client and its own service, after calls of either.
-use Rattle.std.proofs.Common.{◌≡◌, ◌≢◌, ◌⊎◌, ℕ, ◌+◌, ◌<◌, ◌≤◌, Bool, true, false, nat_eq, List, length, Option, Some, None, refl, sym, ap, subst, ◌∙◌, arith, inl, inr}
+use Rattle.std.proofs.Common.{◌≡◌, ◌⊎◌, ℕ, ◌<◌, ◌≤◌, List, length, Option, Some, None, refl, sym, ap, subst, ◌∙◌, inl, inr}
 use Rattle.std.specs.Prelude.{IsSome}
 use Rattle.ostore_base.specs.declared.numbers.PageNo.{PageNo}
 use Rattle.ostore_base.specs.declared.page.PageImage.{PageImage}
 use Rattle.ostore_schema_layout.specs.declared.schema.Schema.{Schema}
 use Rattle.ostore_address_space.specs.declared.space.Frame.{Frame}
-use Rattle.ostore_address_space.specs.Frames.{Frames, ArePaired, KeepsFrames, frame_of, page_in}
+use Rattle.ostore_address_space.specs.Frames.{ArePaired, KeepsFrames, frame_of, page_in}
 use Rattle.ostore_relocation.specs.Forms.{IsResidentPage, stored_form}
-use Rattle.ostore_relocation.specs.Stores.{StoresAs}
 use Rattle.ostore_relocation.proofs.MoreFrames.{stored_so}
 use Rattle.ostore_page_service.specs.Told.{Side, Told, SameService, SamePages}
 use Rattle.ostore_graph_model.specs.declared.commands.Script.{Script}
@@ -15,7 +14,7 @@ use Rattle.ostore_graph_model.specs.declared.history.Entry.{Entry}
 use Rattle.ostore_client_cache.specs.declared.entries.CachedPage.{CachedPage}
 use Rattle.ostore_client_core.specs.Cells.{HasCellsOf}
 use Rattle.ostore_client_core.specs.Clients.{ClientView, entry_of, stored_image, IsResident, IsTied, IsOwn, AreUsedFirst}
-use Rattle.ostore_client_core.proofs.TiedLaws.{SameAt, same_at, tied_still}
+use Rattle.ostore_client_core.proofs.TiedLaws.{SameAt, tied_still}
 
 -- ---- more frames
 

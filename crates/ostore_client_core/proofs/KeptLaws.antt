@@ -1,8 +1,7 @@
 -- The list of the pages in use, once one of a client's pages is held otherwise.
-use Rattle.std.proofs.Common.{◌≡◌, ◌≢◌, ◌⊎◌, ◌↔◌, ◌≤◌, ◌<◌, ◌+◌, ℕ, suc, Bool, true, false, cond, nat_eq, List, [], ◌∷◌, ◌++◌, length, map, Option, Some, None, refl, sym, ap, subst, ◌∙◌, inl, inr, arith}
-use Rattle.std.specs.Prelude.{IsSome, IfSome, Result, Ok, Err, OnOk, OnErr}
-use Rattle.std.specs.List.{AllPairs, Contains, IsDistinct, list_any}
-use Rattle.std.specs.List.Sorted.{IsPermutation, IsSorted}
+use Rattle.std.proofs.Common.{◌≡◌, ◌≤◌, ◌<◌, ◌+◌, ℕ, Bool, true, false, nat_eq, List, [], ◌∷◌, ◌++◌, length, Option, Some, None, refl, sym, ap, subst, ◌∙◌, inl, inr, arith}
+use Rattle.std.specs.Prelude.{IfSome, Result, Ok, Err, OnOk, OnErr}
+use Rattle.std.specs.List.{Contains, IsDistinct, list_any}
 use Rattle.std.specs.Map.{lookup, remove_entry, set_value, keys_of}
 use Rattle.std.specs.Cmp.{nat_eq_equiv}
 use Rattle.std.proofs.lemmas.Bool.{cases_eq, cases_lt, eq-eqb, ne_eqb, false≢true}
@@ -14,14 +13,13 @@ use Rattle.ostore_schema_layout.specs.declared.schema.Schema.{Schema}
 use Rattle.ostore_schema_layout.specs.Lawful.{IsLawful}
 use Rattle.ostore_address_space.specs.Frames.{Frames}
 use Rattle.ostore_client_cache.specs.declared.entries.CachedPage.{CachedPage}
-use Rattle.ostore_client_cache.specs.declared.entries.Hold.{Hold}
-use Rattle.ostore_client_cache.specs.declared.entries.Hold.TheVariants.{Retained, InUse, Owned}
-use Rattle.ostore_client_cache.specs.Entries.{is_used, is_in_use, is_owned, is_retained, with_bytes, held_as, first_as, hold_of}
+use Rattle.ostore_client_cache.specs.declared.entries.Hold.TheVariants.{Retained, InUse}
+use Rattle.ostore_client_cache.specs.Entries.{is_used, is_in_use, is_owned, with_bytes, held_as, first_as, hold_of}
 use Rattle.ostore_client_cache.specs.Caches.{Cached, cached, fresh, used_pages, without_one}
 use Rattle.ostore_client_cache.specs.Releases.{numbers_of}
 use Rattle.ostore_client_cache.proofs.CountLaws.{bit, used_few, used_more, used_removed, used_first, used_set}
 use Rattle.ostore_client_core.specs.inside.Kept.{AreListed, IsClient}
-use Rattle.ostore_client_core.proofs.EntryLaws.{Pages, none_some, IsThere, there, owned_there, if_some, held_there, hold_there, first_here, first_other, gone_here, gone_other, none_used, some_of, set_here, set_other}
+use Rattle.ostore_client_core.proofs.EntryLaws.{Pages, owned_there, if_some, held_there, hold_there, first_here, first_other, gone_here, gone_other, none_used, some_of, set_here, set_other}
 use Rattle.ostore_client_core.specs.Clients.{ClientView, client_view, with_pages}
 
 -- each page is in use exactly as it was, so the same are listed

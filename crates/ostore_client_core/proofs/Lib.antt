@@ -15,3 +15,5 @@ pub mod NewLaws
 pub mod OwnLaws
 pub mod BeginLaws
 pub mod CommitLaws
+pub mod FrameLaws
+pub mod TestLaws

@@ -1,10 +1,10 @@
 -- A page that the client hadn't: the one that makes way for it, and what becomes of it.
-use Rattle.std.proofs.Common.{◌≡◌, ◌≢◌, ◌⊎◌, ℕ, ◌+◌, ◌<◌, ◌≤◌, Bool, true, false, cond, nat_eq, List, [], ◌∷◌, length, Option, Some, None, refl, sym, ap, subst, ◌∙◌, arith, inl, inr}
-use Rattle.std.specs.Prelude.{IsSome, Result, Ok, Err, OnOk}
+use Rattle.std.proofs.Common.{◌≡◌, ◌≢◌, ℕ, ◌<◌, ◌≤◌, Bool, true, false, cond, nat_eq, List, ◌∷◌, length, Option, Some, None, refl, sym, ap, subst, ◌∙◌, arith}
+use Rattle.std.specs.Prelude.{Result, Ok, Err, OnOk}
 use Rattle.std.specs.Result.{is_err}
 use Rattle.std.specs.List.{IsDistinct}
 use Rattle.std.specs.Map.{lookup, remove_entry, keys_of}
-use Rattle.std.proofs.lemmas.Bool.{cases_eq, eq-eqb, false≢true}
+use Rattle.std.proofs.lemmas.Bool.{eq-eqb, false≢true}
 use Rattle.ostore_base.specs.declared.numbers.PageNo.{PageNo}
 use Rattle.ostore_base.specs.declared.page.PageImage.{PageImage}
 use Rattle.ostore_address_space.specs.Frames.{KeepsFrames}
@@ -22,13 +22,13 @@ use Rattle.ostore_client_core.specs.Kinds.{graph_meaning}
 use Rattle.ostore_client_core.specs.Clients.{ClientView, with_pages, entry_of, stored_image, IsAbsent, IsTied, IsTiedBy, IsOwn, AreUsedFirst}
 use Rattle.ostore_client_core.specs.Attempts.{Attempts}
 use Rattle.ostore_client_core.specs.Calls.{Drops, IsFitPage, Takes, trimmed}
-use Rattle.ostore_client_core.proofs.EntryLaws.{Pages, none_some, front_here, front_other, first_less, gone_other}
+use Rattle.ostore_client_core.proofs.EntryLaws.{Pages, front_here, front_other, gone_other}
 use Rattle.ostore_client_core.proofs.RecordLaws.{calm_refl}
 use Rattle.ostore_client_core.proofs.KeptLaws.{fresh_idle, fresh_held, admitted_count, removed_count}
 use Rattle.ostore_client_core.proofs.OldestLaws.{IsOldest, oldest_idle}
-use Rattle.ostore_client_core.proofs.TiedLaws.{SameAt, same_at}
-use Rattle.ostore_client_core.proofs.BringLaws.{ReachedFor, Comes, HasTaken, has_taken, taken_comes, other_new, lost_own, trimmed_is, trimmed_short, trimmed_first}
-use Rattle.ostore_client_core.proofs.TakeLaws.{WasLost, lost_pages, lost_more, lost_most, lost_short}
+use Rattle.ostore_client_core.proofs.TiedLaws.{same_at}
+use Rattle.ostore_client_core.proofs.BringLaws.{ReachedFor, Comes, has_taken, taken_comes, other_new, lost_own, trimmed_is, trimmed_short, trimmed_first}
+use Rattle.ostore_client_core.proofs.TakeLaws.{WasLost, lost_pages, lost_more, lost_short}
 
 -- the page was admitted, and what is too much was dropped
 pub record Trims (old admitted mid : ClientView) (page : ℕ) : Type 0 where

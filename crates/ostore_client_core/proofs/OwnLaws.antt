@@ -1,6 +1,6 @@
 -- A client that owns a page, and one whose attempt has ended.
-use Rattle.std.proofs.Common.{◌≡◌, ◌≢◌, ◌⊎◌, ℕ, ◌+◌, ◌<◌, ◌≤◌, Bool, true, false, cond, nat_eq, List, [], ◌∷◌, length, Option, Some, None, refl, sym, ap, subst, ◌∙◌, arith, inl, inr}
-use Rattle.std.specs.Prelude.{IsSome, slice_get}
+use Rattle.std.proofs.Common.{◌≡◌, ◌≢◌, ℕ, ◌≤◌, Bool, true, false, nat_eq, [], ◌∷◌, length, Option, Some, None, refl, sym, ap, subst, ◌∙◌, arith, inl, inr}
+use Rattle.std.specs.Prelude.{IsSome}
 use Rattle.std.specs.List.{AllByRecursion}
 use Rattle.std.specs.Map.{lookup, set_value}
 use Rattle.std.proofs.lemmas.Bool.{cases_eq, eq-eqb, ne_eqb, false≢true}
@@ -8,25 +8,23 @@ use Rattle.std.proofs.lemmas.Option.{same_Some}
 use Rattle.ostore_base.specs.declared.page.PageImage.{PageImage}
 use Rattle.ostore_schema_layout.specs.declared.schema.Schema.{Schema}
 use Rattle.ostore_address_space.specs.Frames.{KeepsFrames, ArePaired}
-use Rattle.ostore_page_service.specs.History.{Agrees}
-use Rattle.ostore_page_service.specs.Told.{Side, Told, SameService, SameRecords, BecomesOwner}
+use Rattle.ostore_page_service.specs.Told.{Side, Told, SameService, BecomesOwner}
 use Rattle.ostore_graph_model.specs.declared.commands.Script.{Script}
 use Rattle.ostore_graph_model.specs.declared.history.Entry.{Entry}
 use Rattle.ostore_graph_model.specs.Valid.{IsValid}
 use Rattle.ostore_client_cache.specs.declared.entries.CachedPage.{CachedPage}
 use Rattle.ostore_client_cache.specs.declared.entries.Hold.{Hold}
 use Rattle.ostore_client_cache.specs.declared.entries.Hold.TheVariants.{Retained, InUse, Owned}
-use Rattle.ostore_client_cache.specs.Entries.{is_used, is_in_use, is_owner, held_as}
+use Rattle.ostore_client_cache.specs.Entries.{is_used, held_as}
 use Rattle.ostore_client_cache.proofs.CountLaws.{long_set}
 use Rattle.ostore_client_core.specs.declared.release.Ending.{Ending}
-use Rattle.ostore_client_core.specs.declared.release.Ending.TheVariants.{Committed, Aborted}
-use Rattle.ostore_client_core.specs.Clients.{ClientView, with_pages, entry_of, stored_image, is_page_used, IsResident, IsTheOwner, IsTied, IsTiedBy, IsOwn, AreUsedFirst}
-use Rattle.ostore_client_core.specs.Attempts.{seen, IsBase, Attempts, Narrows}
+use Rattle.ostore_client_core.specs.declared.release.Ending.TheVariants.{Aborted}
+use Rattle.ostore_client_core.specs.Clients.{ClientView, with_pages, entry_of, stored_image, IsResident, IsTied, IsTiedBy, IsOwn, AreUsedFirst}
+use Rattle.ostore_client_core.specs.Attempts.{seen, Attempts, Narrows}
 use Rattle.ostore_client_core.specs.Calls.{OwnsPage, is_void}
-use Rattle.ostore_client_core.specs.inside.Releasing.{HasImage, HaveImages, IsHeld, EndsWith}
-use Rattle.ostore_client_core.proofs.EntryLaws.{Pages, none_some, some_of, set_here, set_other, used_there}
-use Rattle.ostore_client_core.proofs.TiedLaws.{SameAt}
-use Rattle.ostore_client_core.proofs.GoesLaws.{Extends, KeepsPage, SettlesPage, Goes, GoesOn, goes_own, same_stored, same_resident}
+use Rattle.ostore_client_core.specs.inside.Releasing.{HaveImages, IsHeld, EndsWith}
+use Rattle.ostore_client_core.proofs.EntryLaws.{Pages, none_some, some_of, set_here, set_other}
+use Rattle.ostore_client_core.proofs.GoesLaws.{Extends, KeepsPage, Goes, GoesOn, goes_own, same_stored, same_resident}
 use Rattle.ostore_client_core.proofs.SeenLaws.{narrows, seen_used, seen_kept}
 
 -- ---- the order, where an entry changes and is in use as it was

@@ -1,5 +1,5 @@
 -- Calls of a service, one after the other.
-use Rattle.std.proofs.Common.{◌≡◌, ◌≤◌, ℕ, refl, sym, ap, ◌∙◌, arith}
+use Rattle.std.proofs.Common.{refl, ◌∙◌, arith}
 use Rattle.ostore_page_service.specs.Told.{Side, Told, SameService, SameRecords, NoBusy, Undisturbed}
 
 same_side : {E : Type 0} (a : Side E) → Undisturbed a a

@@ -1,7 +1,7 @@
 -- What the releases so far leave of a client's pages, and of what its service holds for it.
-use Rattle.std.proofs.Common.{◌≡◌, ◌≢◌, ◌≤◌, ◌<◌, ◌+◌, ℕ, zero, suc, Bool, true, false, cond, nat_eq, List, [], ◌∷◌, ◌++◌, length, get_or, take, Option, Some, None, sym, ap, subst, refl, ◌∙◌, arith, inl, inr}
+use Rattle.std.proofs.Common.{◌≡◌, ◌≢◌, ◌≤◌, ◌<◌, ◌+◌, ℕ, Bool, true, false, cond, nat_eq, List, [], ◌∷◌, ◌++◌, length, get_or, take, Option, Some, None, sym, ap, subst, refl, ◌∙◌, arith, inl, inr}
 use Rattle.std.specs.Prelude.{IsSome, is_some}
-use Rattle.std.specs.List.{AllPairs, AllByRecursion, Contains, IsDistinct}
+use Rattle.std.specs.List.{AllPairs, Contains, IsDistinct}
 use Rattle.std.specs.Map.{lookup, remove_entry, keys_of}
 use Rattle.std.proofs.lemmas.List.{get_or_default, take_all}
 use Rattle.std.proofs.lemmas.List.Elements.{Contains-get_or, Contains-append_right}
@@ -12,16 +12,15 @@ use Rattle.ostore_page_service.specs.Told.{Told, Side, SameElsewhere, SameRecord
 use Rattle.ostore_client_cache.specs.declared.entries.CachedPage.{CachedPage}
 use Rattle.ostore_client_cache.specs.declared.entries.Hold.{Hold}
 use Rattle.ostore_client_cache.specs.declared.entries.Hold.TheVariants.{Retained, InUse, Owned}
-use Rattle.ostore_client_cache.specs.Entries.{first_as, pair_as, is_in_use, is_used, is_owner, held_as}
+use Rattle.ostore_client_cache.specs.Entries.{first_as, pair_as, is_in_use, is_used, held_as}
 use Rattle.ostore_client_cache.specs.Caches.{Cached, cached}
 use Rattle.ostore_client_cache.specs.Releases.{released_all}
 use Rattle.ostore_client_cache.proofs.CountLaws.{long_first, long_removed}
 use Rattle.ostore_client_cache.proofs.OrderLaws.{Apart, later_apart, lookup_later, released_turn}
 use Rattle.ostore_client_core.specs.declared.release.Ending.{Ending}
-use Rattle.ostore_client_core.specs.declared.release.Ending.TheVariants.{Committed, Aborted}
-use Rattle.ostore_client_core.specs.Clients.{IsTied, IsTiedBy, IsAbsent, IsRetained}
+use Rattle.ostore_client_core.specs.Clients.{IsTied, IsTiedBy, IsRetained}
 use Rattle.ostore_client_core.specs.Calls.{is_void, keeps}
-use Rattle.ostore_client_core.specs.inside.Releasing.{GivesBack, KeepsCopy, HasImage, HaveImages, IsHeld, EndsWith}
+use Rattle.ostore_client_core.specs.inside.Releasing.{GivesBack, HasImage, HaveImages, IsHeld, EndsWith}
 use Rattle.ostore_client_core.proofs.EntryLaws.{Pages, first_here, first_other, gone_here, gone_other, none_some, IsThere, there}
 use Rattle.ostore_client_core.proofs.TiedLaws.{SameAt, tied_still}
 use Rattle.ostore_client_core.proofs.RecordLaws.{records_refl, records_then, calm_refl, calm_then}

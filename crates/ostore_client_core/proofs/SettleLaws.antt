@@ -1,6 +1,6 @@
 -- Frames that were reserved for an image.
 use Rattle.std.proofs.Common.{◌≡◌, ◌≢◌, ℕ, Bool, true, false, cond, List, [], ◌∷◌, length, nat_eq, Option, Some, None, refl, sym, ap, subst, ◌∙◌}
-use Rattle.std.specs.Prelude.{IsSome, IfSome, IfErr, Result, is_ok, is_some, Err}
+use Rattle.std.specs.Prelude.{IsSome, IfSome, Result, is_ok, is_some}
 use Rattle.std.specs.Map.{lookup, set_value}
 use Rattle.ostore_base.specs.declared.numbers.PageNo.{PageNo}
 use Rattle.ostore_base.specs.declared.numbers.ClientNo.{ClientNo}
@@ -15,9 +15,9 @@ use Rattle.ostore_relocation.proofs.FormLaws.{all_have}
 use Rattle.ostore_client_cache.specs.declared.entries.CachedPage.{CachedPage}
 use Rattle.ostore_client_cache.specs.Entries.{imaged_as}
 use Rattle.ostore_client_cache.specs.Caches.{Cached, cached}
-use Rattle.ostore_client_core.specs.Clients.{ClientView, client_view, entry_of}
+use Rattle.ostore_client_core.specs.Clients.{client_view}
 use Rattle.ostore_client_core.specs.Calls.{Settles, FindsNoFrame, one_more}
-use Rattle.ostore_client_core.proofs.EntryLaws.{IsThere, there, if_some}
+use Rattle.ostore_client_core.proofs.EntryLaws.{there, if_some}
 
 client_as : (b : Bool) (x y : Reserving) (client : ClientNo) → x.frames.client ≡ client → y.frames.client ≡ client → (cond b x y).frames.client ≡ client
 client_as true x y client h k = h

@@ -1,33 +1,30 @@
 -- A page that was claimed: it comes into use, or is lost for want of a frame.
-use Rattle.std.proofs.Common.{◌≡◌, ◌≢◌, ◌⊎◌, ℕ, ◌+◌, ◌<◌, ◌≤◌, Bool, true, false, nat_eq, List, ◌∷◌, length, Option, Some, None, refl, sym, ap, subst, ◌∙◌, arith, inl, inr}
-use Rattle.std.specs.Prelude.{IsSome}
+use Rattle.std.proofs.Common.{◌≡◌, ◌≢◌, ℕ, ◌<◌, ◌≤◌, false, nat_eq, length, Option, Some, None, refl, sym, ap, subst, ◌∙◌, arith}
 use Rattle.std.specs.List.{IsDistinct}
 use Rattle.std.specs.Map.{lookup, remove_entry, keys_of}
-use Rattle.std.proofs.lemmas.Bool.{cases_eq}
 use Rattle.ostore_base.specs.declared.numbers.PageNo.{PageNo}
 use Rattle.ostore_base.specs.declared.page.PageImage.{PageImage}
 use Rattle.ostore_address_space.specs.Frames.{Frames, ArePaired, KeepsFrames}
 use Rattle.ostore_schema_layout.specs.declared.schema.Schema.{Schema}
 use Rattle.ostore_relocation.specs.Reserving.{pages_wanted, reserve_all}
-use Rattle.ostore_page_service.specs.Told.{Side, Told, SameService, SameRecords, SameElsewhere, InUse, NoBusy, Refuses}
+use Rattle.ostore_page_service.specs.Told.{Side, Told, SameService, SameElsewhere, InUse, NoBusy}
 use Rattle.ostore_graph_model.specs.declared.commands.Script.{Script}
 use Rattle.ostore_graph_model.specs.declared.history.Entry.{Entry}
 use Rattle.ostore_client_cache.specs.declared.entries.CachedPage.{CachedPage}
 use Rattle.ostore_client_cache.specs.declared.entries.Hold.TheVariants.{Retained}
 use Rattle.ostore_client_cache.specs.Entries.{is_used, is_in_use, imaged_as, hold_of}
-use Rattle.ostore_client_cache.specs.Caches.{fresh, surplus, used_pages, without_one}
+use Rattle.ostore_client_cache.specs.Caches.{used_pages}
 use Rattle.ostore_client_cache.proofs.CountLaws.{long_removed, used_set}
 use Rattle.ostore_client_core.specs.declared.fault.AttemptFault.{AttemptFault}
 use Rattle.ostore_client_core.specs.declared.fault.AttemptFault.TheVariants.{Busy, NoSpace, CacheFull, SpaceFull, Commit, OutOfMemory}
-use Rattle.ostore_client_core.specs.Clients.{ClientView, client_view, with_pages, entry_of, stored_image, IsResident, IsAbsent, IsTied, IsOwn, AreUsedFirst}
-use Rattle.ostore_client_core.specs.Attempts.{Attempts, Narrows}
-use Rattle.ostore_client_core.specs.Calls.{one_more, Drops, IsFitPage, Settles, Takes, FindsNoFrame, LetsGo, Loses, LacksFrames, Refused, trimmed}
-use Rattle.ostore_client_core.proofs.EntryLaws.{Pages, none_some, some_of, IsThere, there, held_there, hold_there, set_here, set_other, gone_here, gone_other, front_here, front_other, first_less}
-use Rattle.ostore_client_core.proofs.OldestLaws.{IsOldest}
-use Rattle.ostore_client_core.proofs.TiedLaws.{SameAt, same_at}
-use Rattle.ostore_client_core.proofs.GoesLaws.{Extends, KeepsPage}
+use Rattle.ostore_client_core.specs.Clients.{ClientView, with_pages, entry_of, stored_image, IsOwn, AreUsedFirst}
+use Rattle.ostore_client_core.specs.Attempts.{Attempts}
+use Rattle.ostore_client_core.specs.Calls.{one_more, IsFitPage, Settles, Takes, FindsNoFrame, LetsGo, Loses, Refused}
+use Rattle.ostore_client_core.proofs.EntryLaws.{Pages, some_of, held_there, hold_there, set_here, gone_here, gone_other, first_less}
+use Rattle.ostore_client_core.proofs.TiedLaws.{SameAt}
+use Rattle.ostore_client_core.proofs.GoesLaws.{Extends}
 use Rattle.ostore_client_core.proofs.BeginLaws.{unheld}
-use Rattle.ostore_client_core.proofs.BringLaws.{ReachedFor, Comes, comes_narrows, comes_use, HasTaken, has_taken, taken_comes, OtherGoes, other_keeps, other_new, lost_own, trimmed_is, trimmed_short, trimmed_first}
+use Rattle.ostore_client_core.proofs.BringLaws.{ReachedFor, Comes, has_taken, taken_comes, other_keeps, lost_own}
 
 pub retained_idle : (found : Option CachedPage) → hold_of found ≡ Some Retained → is_in_use found ≡ false
 retained_idle found held = let is = held_there found Retained held in ap is_in_use is.is ∙ ap is_used (hold_there found is.entry Retained is.is held)

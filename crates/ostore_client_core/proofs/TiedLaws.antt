@@ -1,12 +1,12 @@
 -- What a client and its service have of a page that neither changes.
-use Rattle.std.proofs.Common.{◌≡◌, ℕ, Bool, true, false, Option, Some, None, refl, sym, ap, subst, ◌∙◌}
+use Rattle.std.proofs.Common.{◌≡◌, ℕ, Option, Some, None, refl, sym, ap, subst, ◌∙◌}
 use Rattle.std.specs.Prelude.{IsSome}
 use Rattle.ostore_base.specs.declared.page.PageImage.{PageImage}
 use Rattle.ostore_page_service.specs.Told.{Side}
 use Rattle.ostore_client_cache.specs.declared.entries.CachedPage.{CachedPage}
 use Rattle.ostore_client_cache.specs.declared.entries.Hold.{Hold}
 use Rattle.ostore_client_cache.specs.declared.entries.Hold.TheVariants.{Retained, InUse, Owned}
-use Rattle.ostore_client_core.specs.Clients.{IsAbsent, IsRetained, IsTaken, IsTheOwner, IsTiedBy, IsTied}
+use Rattle.ostore_client_core.specs.Clients.{IsTiedBy, IsTied}
 
 -- the service holds of a page what it held
 pub record SameAt {E : Type 0} (old new : Side E) (page : ℕ) : Type 0 where

@@ -109,6 +109,7 @@ pub record OwnsPage (old new : ClientView) (page : ℕ) : Type 0 where
   pub entry : CachedPage
   pub there : entry_of old page ≡ Some entry
   pub client : new ≡ with_pages (set_value (nat_eq page) old.pages (held_as Owned entry)) old
+  pub owned : is_owned (entry_of new page) ≡ true
 
 -- the fault is that another client is at the page
 abbrev pub IsBusy : AttemptFault → Told Entry → Told Entry → ℕ → Type 0
@@ -173,3 +174,4 @@ pub record IsAddressOf (client : ClientView) (page address : ℕ) : Type 0 where
   pub frame : Frame
   pub has : frame_of client.frames.pages page ≡ Some frame
   pub first : address ≡ frame.0 * 4096
+  pub leads : page_in client.frames.pages (address / 4096) ≡ Some (record { 0 = page })

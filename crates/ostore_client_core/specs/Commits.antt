@@ -1,9 +1,9 @@
 -- A commit: what an attempt writes, and when its entry fits.
-use Rattle.std.specs.Prelude.{◌≡◌, ◌<◌, ◌≢◌, ℕ, Bool, true, false, if◌then◌else◌, List, [], ◌∷◌, ◌++◌, Option, Some, None, All}
+use Rattle.std.specs.Prelude.{◌≡◌, ◌<◌, ℕ, true, false, if◌then◌else◌, List, Option, Some, None, All}
 use Rattle.ostore_base.specs.declared.page.PageImage.{PageImage}
 use Rattle.ostore_redo_journal.specs.Drafts.{Writes}
 use Rattle.ostore_page_service.specs.History.{written}
-use Rattle.ostore_page_service.specs.Told.{Told, Numbers, Fails, SameService, NoBusy}
+use Rattle.ostore_page_service.specs.Told.{Told}
 use Rattle.ostore_graph_model.specs.declared.commands.Txn.{Txn}
 use Rattle.ostore_graph_model.specs.declared.commands.Script.{Script}
 use Rattle.ostore_graph_model.specs.declared.history.Entry.{Entry}

@@ -10,3 +10,6 @@ mod release;
 pub use client::Client;
 pub use fault::AttemptFault;
 pub use kind::GraphKind;
+
+#[cfg(test)]
+mod tests;

@@ -2,7 +2,7 @@
 use Rattle.std.specs.Prelude.{◌≡◌, ℕ, Bool, true, false, nat_eq, List, Option, Some, None}
 use Rattle.std.specs.Map.{lookup}
 use Rattle.ostore_base.specs.declared.page.PageImage.{PageImage}
-use Rattle.ostore_page_service.specs.Told.{Side, Told, SameElsewhere}
+use Rattle.ostore_page_service.specs.Told.{Side, SameElsewhere}
 use Rattle.ostore_client_cache.specs.declared.entries.CachedPage.{CachedPage}
 use Rattle.ostore_client_cache.specs.Entries.{is_used}
 use Rattle.ostore_client_core.specs.declared.release.Ending.{Ending}

@@ -15,7 +15,7 @@ use crate::client::Client;
 use crate::fault::AttemptFault;
 use crate::kind::GraphKind;
 use crate::release::give_back;
-use ostore_address_space::Mapper;
+use ostore_address_space::{Mapper, frames_are_paired};
 use ostore_base::{PAGE_SIZE, PageImage, PageNo};
 use ostore_page_service::{Claim, PageClaims, PageService};
 
@@ -164,10 +164,12 @@ impl<'a, M: Mapper> Client<'a, M> {
     }
 
     /// The first address of a page's frame.
+    #[tactic(auto, using(crate::proofs::FrameLaws::first_leads))]
     fn address_of(&self, page: PageNo) -> u32
         requires { IsSome (frame_of self.now.frames.pages page.0) }
         ensures { IsAddressOf self.now page.0 result }
     {
+        frames_are_paired(&self.space);
         match self.space.frame_of(page) {
             Some(frame) => frame.0 * PAGE_BYTES,
             None => unreachable!(),

@@ -1,12 +1,9 @@
-use Rattle.std.proofs.Common.{◌≡◌, ◌<◌, ◌≤◌, ℕ, List, Bool, length, get_or, take, sym, ap, subst, refl, ◌∙◌, arith}
+use Rattle.std.proofs.Common.{◌≡◌, ◌<◌, ◌≤◌, ℕ, List, Bool, length, get_or, sym, ap, subst, ◌∙◌, arith}
 use Rattle.std.specs.Prelude.{IsSome}
-use Rattle.std.specs.Map.{lookup}
 use Rattle.std.proofs.lemmas.List.{get_or-map, length-map}
 use Rattle.ostore_base.specs.declared.numbers.PageNo.{PageNo}
-use Rattle.ostore_base.specs.declared.page.PageImage.{PageImage}
-use Rattle.ostore_client_cache.specs.Caches.{Cached, cached}
+use Rattle.ostore_client_cache.specs.Caches.{cached}
 use Rattle.ostore_client_cache.specs.Releases.{numbers_of}
-use Rattle.ostore_client_core.proofs.RecordLaws.{records_refl, calm_refl}
 use Rattle.ostore_client_core.proofs.ReleaseLaws.{after_page, next_released, started, taken_all, others_same}
 use Rattle.ostore_client_core.proofs.release.release_all.Goals as goal
 use Rattle.ostore_client_core.proofs.release.release_all.Goals.{then-give_back, else-give_back}

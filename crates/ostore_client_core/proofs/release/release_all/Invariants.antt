@@ -1,4 +1,3 @@
-use Rattle.std.proofs.Common.{◌≡◌}
 use Rattle.ostore_page_service.specs.Told.{StillServes}
 use Rattle.ostore_client_cache.specs.Releases.{numbers_of}
 use Rattle.ostore_client_core.proofs.ReleaseLaws.{Released}

@@ -1,4 +1,4 @@
-use Rattle.std.proofs.Common.{◌≡◌, ◌≤◌, length, arith}
+use Rattle.std.proofs.Common.{arith}
 use Rattle.ostore_client_core.specs.Clients.{stored_image}
 use Rattle.ostore_client_core.specs.declared.release.Ending.TheVariants.{Aborted}
 use Rattle.ostore_client_core.proofs.OwnLaws.{aborts, ended}

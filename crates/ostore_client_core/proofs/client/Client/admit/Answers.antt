@@ -1,8 +1,6 @@
-use Rattle.std.proofs.Common.{◌≡◌, ◌∷◌, nat_eq, None, ap, ◌∙◌}
+use Rattle.std.proofs.Common.{◌≡◌, nat_eq, None, ap, ◌∙◌}
 use Rattle.std.specs.Map.{lookup}
-use Rattle.ostore_client_cache.specs.Caches.{Cached, cached, fresh}
 use Rattle.ostore_client_core.specs.Clients.{ClientView}
-use Rattle.ostore_client_core.specs.inside.Kept.{IsClient}
 use Rattle.ostore_client_core.proofs.KeptLaws.{ok_or_err, kept_admitted, kept_same}
 use Rattle.ostore_client_core.proofs.client.Client.admit.Goals as goal
 

@@ -1,14 +1,12 @@
-use Rattle.std.proofs.Common.{◌≡◌, true, nat_eq, Some, refl, sym, ap, subst, ◌∙◌}
-use Rattle.std.specs.Prelude.{IfSome}
+use Rattle.std.proofs.Common.{◌≡◌, true, nat_eq, Some, sym, ap, ◌∙◌}
 use Rattle.std.specs.Map.{lookup, set_value}
 use Rattle.ostore_client_cache.specs.declared.entries.CachedPage.{CachedPage}
 use Rattle.ostore_client_cache.specs.declared.entries.Hold.TheVariants.{Owned}
-use Rattle.ostore_client_cache.specs.Entries.{is_used, is_in_use, held_as}
-use Rattle.ostore_client_cache.specs.Caches.{Cached, cached}
+use Rattle.ostore_client_cache.specs.Entries.{is_in_use, is_owned, held_as}
+use Rattle.ostore_client_cache.specs.Caches.{cached}
 use Rattle.ostore_client_core.specs.Clients.{ClientView, client_view, with_pages, entry_of}
-use Rattle.ostore_client_core.specs.Attempts.{Narrows}
 use Rattle.ostore_client_core.specs.Calls.{OwnsPage}
-use Rattle.ostore_client_core.proofs.EntryLaws.{used_there, if_some}
+use Rattle.ostore_client_core.proofs.EntryLaws.{used_there, if_some, set_here, some_of}
 use Rattle.ostore_client_core.proofs.KeptLaws.{kept_set, view_pages}
 use Rattle.ostore_client_core.proofs.OwnLaws.{owns}
 use Rattle.ostore_client_core.proofs.client.Client.own_page.Goals as goal
@@ -30,12 +28,16 @@ returns-clause-owned g c =
     let same : lookup (nat_eq page) inside.cache.pages ≡ Some is.entry = ap (λ (v : ClientView). lookup (nat_eq page) v.pages) c.self.view_is ∙ is.is in
     let set : c.own.new.self ≡ cached (set_value (nat_eq page) inside.cache.pages (held_as Owned is.entry)) inside.cache.most =
     if_some (λ (e : CachedPage). c.own.new.self ≡ cached (set_value (nat_eq page) inside.cache.pages (held_as Owned e)) inside.cache.most) (lookup (nat_eq page) inside.cache.pages) is.entry same c.own.ensures in
+    let client =
+    view_pages inside.schema.now inside.space inside.cache c.own.new.self inside.fetches c.args.self.now (set_value (nat_eq page) inside.cache.pages (held_as Owned is.entry)) c.self.view_is set
+    ∙ ap (λ (v : ClientView). with_pages (set_value (nat_eq page) v.pages (held_as Owned is.entry)) c.args.self.now) c.self.view_is in
     record {
       entry = is.entry;
       there = is.is;
-      client =
-          view_pages inside.schema.now inside.space inside.cache c.own.new.self inside.fetches c.args.self.now (set_value (nat_eq page) inside.cache.pages (held_as Owned is.entry)) c.self.view_is set
-          ∙ ap (λ (v : ClientView). with_pages (set_value (nat_eq page) v.pages (held_as Owned is.entry)) c.args.self.now) c.self.view_is;
+      client = client;
+      owned =
+          ap (λ (v : ClientView). is_owned (entry_of v page)) client
+          ∙ ap is_owned (set_here page (held_as Owned is.entry) c.args.self.now.pages (some_of (entry_of c.args.self.now page) is.entry is.is));
     }
 
 narrowed : goal.returns-clause-narrows

@@ -1,9 +1,9 @@
-use Rattle.std.proofs.Common.{◌≡◌, nat_eq, Some, refl, sym, ap, subst, ◌∙◌}
-use Rattle.std.specs.Prelude.{IsSome, IfSome}
+use Rattle.std.proofs.Common.{◌≡◌, nat_eq, refl, sym, subst}
+use Rattle.std.specs.Prelude.{IsSome}
 use Rattle.std.specs.Map.{lookup, set_value}
 use Rattle.ostore_client_cache.specs.declared.entries.CachedPage.{CachedPage}
 use Rattle.ostore_client_cache.specs.Entries.{imaged_as}
-use Rattle.ostore_client_cache.specs.Caches.{Cached, cached}
+use Rattle.ostore_client_cache.specs.Caches.{cached}
 use Rattle.ostore_client_core.specs.Clients.{ClientView, client_view, entry_of}
 use Rattle.ostore_client_core.specs.Calls.{Settles, FindsNoFrame}
 use Rattle.ostore_client_core.proofs.EntryLaws.{there, if_some}

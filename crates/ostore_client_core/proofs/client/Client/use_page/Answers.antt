@@ -1,4 +1,4 @@
-use Rattle.std.proofs.Common.{◌≡◌, nat_eq, Some, sym, ap, ◌∙◌}
+use Rattle.std.proofs.Common.{◌≡◌, nat_eq, Some, ap, ◌∙◌}
 use Rattle.std.specs.Map.{lookup}
 use Rattle.ostore_client_cache.specs.declared.entries.Hold.TheVariants.{Retained}
 use Rattle.ostore_client_cache.specs.Entries.{hold_of}
