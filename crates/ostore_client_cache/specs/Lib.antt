@@ -1,0 +1,4 @@
+pub mod Entries
+pub mod Caches
+pub mod Releases
+pub mod inside

@@ -1,0 +1,150 @@
+use Rattle.std.proofs.Common.{◌≡◌, ◌∷◌, refl, sym, ap, subst}
+use Rattle.ostore_schema_layout.specs.declared.schema.Schema.{Schema}
+use Rattle.ostore_page_service.specs.Told.{Told, InUse}
+use Rattle.ostore_graph_model.specs.declared.history.Entry.{Entry}
+use Rattle.ostore_client_cache.specs.Caches.{fresh, surplus}
+use Rattle.ostore_client_core.specs.Clients.{ClientView, with_pages, IsOwn}
+use Rattle.ostore_client_core.specs.Calls.{Drops, IsFitPage}
+use Rattle.ostore_client_core.proofs.RecordLaws.{records_then, calm_then}
+use Rattle.ostore_client_core.proofs.GoesLaws.{own_still}
+use Rattle.ostore_client_core.proofs.BringLaws.{base_of, fit_of, new_use, takes_use, comes_narrows}
+use Rattle.ostore_client_core.proofs.TakeLaws.{was_lost, lacks_frames}
+use Rattle.ostore_client_core.proofs.NewLaws.{Trims, way, absent_is, may_drop, mid_schema, mid_frames, mid_fetches, mid_there, mid_room, new_taken, new_lost, admitted_ok, drops_calm, forgotten, admitted_idle}
+use Rattle.ostore_client_core.proofs.client.Client.bring_new.Goals as goal
+
+pub trim-requires : goal.trim-requires
+trim-requires g c =
+    let told : Told Entry = g.S.PageClaims.tells c.args.service.now in
+    let old : ClientView = c.args.self.now in
+    let is : c.admit.new.self ≡ with_pages ((c.args.page.0, fresh) ∷ old.pages) old = admitted_ok _ c.admit.result c.admit.ensures.ok c.if-is_err.ensures.value in
+    let claimed : Told Entry = g.S.PageClaims.tells c.claim_read.new.self in
+    let use_is : InUse told claimed c.args.page.0 c.claim_read.new.into = new_use c.in-Ok.field-0 told claimed c.args.page.0 _ c.claim_read.new.into (absent_is (g.S.PageClaims.serves c.args.service.now) told old c.args.page.0 c.requires.runs c.requires.absent c.requires.room c.pages_differ.ensures).kept c.in-Ok.ensures.claimed in
+    record { oldest = λ q over. may_drop (g.S.PageClaims.serves c.args.service.now) told old c.args.page.0 c.requires.runs c.requires.absent c.requires.room c.pages_differ.ensures c.admit.new.self claimed is use_is.others c.in-Ok.ensures.same.service q over }
+
+pub take-requires-clause-there : goal.take-requires-clause-there
+take-requires-clause-there g c =
+    let told : Told Entry = g.S.PageClaims.tells c.args.service.now in
+    let old : ClientView = c.args.self.now in
+    mid_there (g.S.PageClaims.serves c.args.service.now) told old c.args.page.0 c.requires.runs c.requires.absent c.requires.room c.pages_differ.ensures c.admit.new.self c.trim.new.self (record { admitted_is = admitted_ok _ c.admit.result c.admit.ensures.ok c.if-is_err.ensures.value; mid_is = c.trim.ensures.pages })
+
+pub take-requires-clause-room : goal.take-requires-clause-room
+take-requires-clause-room g c =
+    let told : Told Entry = g.S.PageClaims.tells c.args.service.now in
+    let old : ClientView = c.args.self.now in
+    mid_room (g.S.PageClaims.serves c.args.service.now) told old c.args.page.0 c.requires.runs c.requires.absent c.requires.room c.pages_differ.ensures c.admit.new.self c.trim.new.self (record { admitted_is = admitted_ok _ c.admit.result c.admit.ensures.ok c.if-is_err.ensures.value; mid_is = c.trim.ensures.pages })
+
+pub take-requires-clause-fit : goal.take-requires-clause-fit
+take-requires-clause-fit g c =
+    let told : Told Entry = g.S.PageClaims.tells c.args.service.now in
+    let old : ClientView = c.args.self.now in
+    let claimed : Told Entry = g.S.PageClaims.tells c.claim_read.new.self in
+    let script = c.requires.runs.own.script in
+    let use_is : InUse told claimed c.args.page.0 c.claim_read.new.into = new_use c.in-Ok.field-0 told claimed c.args.page.0 _ c.claim_read.new.into (absent_is (g.S.PageClaims.serves c.args.service.now) told old c.args.page.0 c.requires.runs c.requires.absent c.requires.room c.pages_differ.ensures).kept c.in-Ok.ensures.claimed in
+    subst (λ (s : Schema). IsFitPage s c.args.page.0 c.claim_read.new.into)
+    (sym (mid_schema (g.S.PageClaims.serves c.args.service.now) told old c.args.page.0 c.requires.runs c.requires.absent c.requires.room c.pages_differ.ensures c.admit.new.self c.trim.new.self (record { admitted_is = admitted_ok _ c.admit.result c.admit.ensures.ok c.if-is_err.ensures.value; mid_is = c.trim.ensures.pages })))
+    (fit_of old.schema claimed c.args.page.0 c.claim_read.new.into (base_of script.0 old.schema claimed script.2 (c.in-Ok.ensures.reached script.0 script.1)) use_is.held)
+
+-- ---- busy
+
+pub forget-requires : goal.forget-requires
+forget-requires g c = admitted_idle c.args.self.now c.admit.new.self c.args.page.0 (admitted_ok _ c.admit.result c.admit.ensures.ok c.if-is_err.ensures.value)
+
+pub returns-in-Err-clause-own : goal.returns-in-Err-clause-own
+returns-in-Err-clause-own g c =
+    let old : ClientView = c.args.self.now in
+    let as_was : c.forget.new.self ≡ old = forgotten old c.admit.new.self c.forget.new.self c.args.page.0 (admitted_ok _ c.admit.result c.admit.ensures.ok c.if-is_err.ensures.value) c.forget.ensures in
+    subst (IsOwn (g.S.PageClaims.serves c.claim_read.new.self) (g.S.PageClaims.tells c.claim_read.new.self)) (sym as_was)
+    (own_still (g.S.PageClaims.serves c.args.service.now) (g.S.PageClaims.serves c.claim_read.new.self) (g.S.PageClaims.tells c.args.service.now) (g.S.PageClaims.tells c.claim_read.new.self) old c.requires.runs.own c.in-Err.ensures.served c.in-Err.ensures.same.service c.in-Err.ensures.refused.pages)
+
+-- ---- no frame
+
+pub returns-in-Err-take-clause-own : goal.returns-in-Err-take-clause-own
+returns-in-Err-take-clause-own g c =
+    let told : Told Entry = g.S.PageClaims.tells c.args.service.now in
+    let claimed : Told Entry = g.S.PageClaims.tells c.claim_read.new.self in
+    let dropped : Told Entry = g.S.PageClaims.tells c.trim.new.service in
+    let now : Told Entry = g.S.PageClaims.tells c.take.new.service in
+    let old : ClientView = c.args.self.now in
+    let e = c.in-Ok.ensures in
+    let d = c.trim.ensures in
+    let l = c.in-Err-take.ensures in
+    let is : c.admit.new.self ≡ with_pages ((c.args.page.0, fresh) ∷ old.pages) old = admitted_ok _ c.admit.result c.admit.ensures.ok c.if-is_err.ensures.value in
+    let use_is : InUse told claimed c.args.page.0 c.claim_read.new.into = new_use c.in-Ok.field-0 told claimed c.args.page.0 _ c.claim_read.new.into (absent_is (g.S.PageClaims.serves c.args.service.now) told old c.args.page.0 c.requires.runs c.requires.absent c.requires.room c.pages_differ.ensures).kept e.claimed in
+    let drops : Drops (way old c.args.page.0) claimed dropped = subst (λ (v : ClientView). Drops (surplus v.pages v.most) claimed dropped) is d.dropped in
+    (new_lost (g.S.PageClaims.serves c.args.service.now) told old c.args.page.0 c.requires.runs c.requires.absent c.requires.room c.pages_differ.ensures c.admit.new.self c.trim.new.self (record { admitted_is = is; mid_is = d.pages })
+    (g.S.PageClaims.serves c.take.new.service) c.in-Err-take.fault claimed dropped now c.take.new.self c.args.page refl (λ s serving. l.served s (d.served s (e.served s serving)))
+    (records_then told claimed now e.same (records_then claimed dropped now d.same l.same)).service use_is.others drops (was_lost c.in-Err-take.fault c.trim.new.self c.take.new.self c.args.page c.claim_read.new.into dropped.mine now.mine l.lost)).1
+
+pub returns-in-Err-take-clause-refused : goal.returns-in-Err-take-clause-refused
+returns-in-Err-take-clause-refused g c =
+    let told : Told Entry = g.S.PageClaims.tells c.args.service.now in
+    let claimed : Told Entry = g.S.PageClaims.tells c.claim_read.new.self in
+    let dropped : Told Entry = g.S.PageClaims.tells c.trim.new.service in
+    let now : Told Entry = g.S.PageClaims.tells c.take.new.service in
+    let old : ClientView = c.args.self.now in
+    let e = c.in-Ok.ensures in
+    let d = c.trim.ensures in
+    let l = c.in-Err-take.ensures in
+    let is : c.admit.new.self ≡ with_pages ((c.args.page.0, fresh) ∷ old.pages) old = admitted_ok _ c.admit.result c.admit.ensures.ok c.if-is_err.ensures.value in
+    let t : Trims old c.admit.new.self c.trim.new.self c.args.page.0 = record { admitted_is = is; mid_is = d.pages } in
+    let use_is : InUse told claimed c.args.page.0 c.claim_read.new.into = new_use c.in-Ok.field-0 told claimed c.args.page.0 _ c.claim_read.new.into (absent_is (g.S.PageClaims.serves c.args.service.now) told old c.args.page.0 c.requires.runs c.requires.absent c.requires.room c.pages_differ.ensures).kept e.claimed in
+    let drops : Drops (way old c.args.page.0) claimed dropped = subst (λ (v : ClientView). Drops (surplus v.pages v.most) claimed dropped) is d.dropped in
+    let w = was_lost c.in-Err-take.fault c.trim.new.self c.take.new.self c.args.page c.claim_read.new.into dropped.mine now.mine l.lost in
+    lacks_frames c.in-Err-take.fault told now old c.trim.new.self c.take.new.self c.args.page dropped.mine w
+    (calm_then told claimed now use_is.calm (calm_then claimed dropped now (drops_calm (way old c.args.page.0) claimed dropped drops) l.calm))
+    (mid_schema (g.S.PageClaims.serves c.args.service.now) told old c.args.page.0 c.requires.runs c.requires.absent c.requires.room c.pages_differ.ensures c.admit.new.self c.trim.new.self t)
+    (mid_frames (g.S.PageClaims.serves c.args.service.now) told old c.args.page.0 c.requires.runs c.requires.absent c.requires.room c.pages_differ.ensures c.admit.new.self c.trim.new.self t)
+    (mid_fetches (g.S.PageClaims.serves c.args.service.now) told old c.args.page.0 c.requires.runs c.requires.absent c.requires.room c.pages_differ.ensures c.admit.new.self c.trim.new.self t)
+    (new_lost (g.S.PageClaims.serves c.args.service.now) told old c.args.page.0 c.requires.runs c.requires.absent c.requires.room c.pages_differ.ensures c.admit.new.self c.trim.new.self t
+    (g.S.PageClaims.serves c.take.new.service) c.in-Err-take.fault claimed dropped now c.take.new.self c.args.page refl (λ s serving. l.served s (d.served s (e.served s serving)))
+    (records_then told claimed now e.same (records_then claimed dropped now d.same l.same)).service use_is.others drops w).0
+
+pub returns-in-Err-take-clause-same : goal.returns-in-Err-take-clause-same
+returns-in-Err-take-clause-same g c =
+    records_then (g.S.PageClaims.tells c.args.service.now) (g.S.PageClaims.tells c.claim_read.new.self) (g.S.PageClaims.tells c.take.new.service) c.in-Ok.ensures.same
+    (records_then (g.S.PageClaims.tells c.claim_read.new.self) (g.S.PageClaims.tells c.trim.new.service) (g.S.PageClaims.tells c.take.new.service) c.trim.ensures.same c.in-Err-take.ensures.same)
+
+pub returns-in-Err-take-clause-served : goal.returns-in-Err-take-clause-served
+returns-in-Err-take-clause-served g c = λ s serving. c.in-Err-take.ensures.served s (c.trim.ensures.served s (c.in-Ok.ensures.served s serving))
+
+-- ---- in use
+
+taken_on : goal.returns-in_default-clause-narrows
+taken_on g c =
+    let told : Told Entry = g.S.PageClaims.tells c.args.service.now in
+    let claimed : Told Entry = g.S.PageClaims.tells c.claim_read.new.self in
+    let dropped : Told Entry = g.S.PageClaims.tells c.trim.new.service in
+    let now : Told Entry = g.S.PageClaims.tells c.take.new.service in
+    let old : ClientView = c.args.self.now in
+    let script = c.requires.runs.own.script in
+    let e = c.in-Ok.ensures in
+    let d = c.trim.ensures in
+    let l = c.in_default.ensures in
+    let is : c.admit.new.self ≡ with_pages ((c.args.page.0, fresh) ∷ old.pages) old = admitted_ok _ c.admit.result c.admit.ensures.ok c.if-is_err.ensures.value in
+    let t : Trims old c.admit.new.self c.trim.new.self c.args.page.0 = record { admitted_is = is; mid_is = d.pages } in
+    let use_is : InUse told claimed c.args.page.0 c.claim_read.new.into = new_use c.in-Ok.field-0 told claimed c.args.page.0 _ c.claim_read.new.into (absent_is (g.S.PageClaims.serves c.args.service.now) told old c.args.page.0 c.requires.runs c.requires.absent c.requires.room c.pages_differ.ensures).kept e.claimed in
+    let drops : Drops (way old c.args.page.0) claimed dropped = subst (λ (v : ClientView). Drops (surplus v.pages v.most) claimed dropped) is d.dropped in
+    let fit : IsFitPage c.trim.new.self.schema c.args.page.0 c.claim_read.new.into = subst (λ (s : Schema). IsFitPage s c.args.page.0 c.claim_read.new.into)
+    (sym (mid_schema (g.S.PageClaims.serves c.args.service.now) told old c.args.page.0 c.requires.runs c.requires.absent c.requires.room c.pages_differ.ensures c.admit.new.self c.trim.new.self t))
+    (fit_of old.schema claimed c.args.page.0 c.claim_read.new.into (base_of script.0 old.schema claimed script.2 (e.reached script.0 script.1)) use_is.held) in
+    let comes = new_taken (g.S.PageClaims.serves c.args.service.now) told old c.args.page.0 c.requires.runs c.requires.absent c.requires.room c.pages_differ.ensures c.admit.new.self c.trim.new.self t
+    (g.S.PageClaims.serves c.take.new.service) claimed dropped now c.take.new.self c.claim_read.new.into (λ s serving. l.served s (d.served s (e.served s serving))) e.same.service d.same c.requires.known
+    use_is drops (ap g.S.PageClaims.tells l.still) fit l.taken (records_then told claimed dropped e.same d.same).service e.reached in
+    comes_narrows (g.S.PageClaims.serves c.args.service.now) (g.S.PageClaims.serves c.take.new.service) told now old c.take.new.self c.args.page.0 comes.0 comes.1
+
+pub returns-in_default-clause-narrows : goal.returns-in_default-clause-narrows
+returns-in_default-clause-narrows g c = taken_on g c
+
+pub returns-in_default-clause-own : goal.returns-in_default-clause-own
+returns-in_default-clause-own g c = (taken_on g c).runs.own
+
+pub returns-in_default-clause-used : goal.returns-in_default-clause-used
+returns-in_default-clause-used g c = takes_use c.trim.new.self c.take.new.self c.args.page.0 c.claim_read.new.into c.in_default.ensures.taken
+
+pub returns-in_default-clause-same : goal.returns-in_default-clause-same
+returns-in_default-clause-same g c =
+    records_then (g.S.PageClaims.tells c.args.service.now) (g.S.PageClaims.tells c.claim_read.new.self) (g.S.PageClaims.tells c.take.new.service) c.in-Ok.ensures.same
+    (records_then (g.S.PageClaims.tells c.claim_read.new.self) (g.S.PageClaims.tells c.trim.new.service) (g.S.PageClaims.tells c.take.new.service) c.trim.ensures.same c.in_default.ensures.same)
+
+pub returns-in_default-clause-served : goal.returns-in_default-clause-served
+returns-in_default-clause-served g c = λ s serving. c.in_default.ensures.served s (c.trim.ensures.served s (c.in-Ok.ensures.served s serving))
