@@ -14,4 +14,8 @@ pub mod TurnAgain
 pub mod JobAgain
 pub mod OptionTaken
 pub mod DraftTaken
+pub mod BadOptions
+pub mod NamedFaults
+pub mod RisingLines
+pub mod FaultsTold
 pub mod InputSaid

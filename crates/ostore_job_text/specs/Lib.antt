@@ -8,6 +8,7 @@ pub mod LinesSaid
 pub mod Drafted
 pub mod ParsedJob
 pub mod LawfulJob
+pub mod FaultsOf
 pub mod JobSpelling
 pub mod Spelling
 pub mod TryFaults

@@ -17,7 +17,8 @@ pub use job::{
     DEFAULT_CACHE, DEFAULT_FRAMES, DEFAULT_TRIES, Job, JobClient, JobClients, JobTurn, JobTurns,
 };
 pub use laws::{
-    one_job_is_spelled, one_refusal, read_is_spelled, refusal_says_nothing, spelled_is_read,
+    first_fault_is_read, one_job_is_spelled, one_refusal, read_is_spelled, refusal_says_nothing,
+    spelled_is_read,
 };
 pub use print::print_job;
 pub use reading::{LONGEST_TEXT, TryFault, parse_job, read_try_input};
