@@ -1,6 +1,6 @@
 -- What a text is read as is a fault exactly where the text has it, first of all that it has.
 use Rattle.std.proofs.Common.{◌≡◌, ◌⊎◌, ℕ, ◌+◌, ◌<◌, ◌≤◌, Bool, true, false, leb, cond, List, [], length, drop, Option, Some, None, Result, Ok, Err, refl, sym, ap, subst, ◌∙◌, arith, inl, inr}
-use Rattle.std.specs.Prelude.{◌↔◌}
+use Rattle.std.specs.Prelude.{◌↔◌, IfErr}
 use Rattle.std.proofs.lemmas.Bool.{cases_lt, cond-true, cond-false, le-leb, lt-leb}
 use Rattle.ostore_text_words.specs.Lines.{lines_on, utf8_fault}
 use Rattle.ostore_job_text.specs.declared.fault.JobFault.{JobFault}
@@ -13,8 +13,8 @@ use Rattle.ostore_job_text.specs.JobFaults.{fault_number, fault_place}
 use Rattle.ostore_job_text.specs.Limits.{longest_text}
 use Rattle.ostore_job_text.specs.LinesSaid.{said_from}
 use Rattle.ostore_job_text.specs.Drafted.{empty_draft, closed, put_all, if_faultless, job_of, finished}
-use Rattle.ostore_job_text.specs.ParsedJob.{with_draft, drafted, job_drafted, if_utf8, parsed_from}
-use Rattle.ostore_job_text.specs.FaultsOf.{HasFault, IsBefore, IsFirstFault, IsTooLong, HasBadByte, IsReadable, HasBadWord, HasBadName, IsFaultFrom}
+use Rattle.ostore_job_text.specs.ParsedJob.{with_draft, drafted, job_drafted, if_utf8, parsed_from, parsed_job, IsOrMemory}
+use Rattle.ostore_job_text.specs.FaultsOf.{HasFault, IsBefore, IsFirstFault, IsTooLong, HasBadByte, IsReadable, HasBadWord, HasBadName, IsFaultFrom, IsFaultOf, IsFaultOrMemory}
 use Rattle.ostore_job_text.proofs.NamedFaults.{Tells, lines_told}
 use Rattle.ostore_job_text.proofs.RisingLines.{text_rises}
 
@@ -116,3 +116,22 @@ fault_read start text fault (inr (inr (inr h))) =
 
 pub read_is_told : (text : List ℕ) (fault : JobFault) → (parsed_from 0 text ≡ Err fault) ↔ IsFaultFrom 0 text fault
 read_is_told text fault = (fault_told 0 text fault, fault_read 0 text fault)
+
+-- ---- what is answered
+
+or_memory : (text : List ℕ) (fault : JobFault) → (fault ≡ faults.OutOfMemory) ⊎ (parsed_job text ≡ Err fault) → IsFaultOrMemory text fault
+or_memory text fault (inl memory) = inl memory
+or_memory text fault (inr read) = inr (fault_told 0 text fault read)
+
+pub fault_given : (text : List ℕ) (result : Result Job JobFault) → IsOrMemory result (parsed_job text) → IfErr result (λ fault. IsFaultOrMemory text fault)
+fault_given text (Ok job) given = tt
+fault_given text (Err fault) given = or_memory text fault given
+
+err_answered : (text : List ℕ) (found fault : JobFault) → (found ≡ faults.OutOfMemory) ⊎ (parsed_job text ≡ Err found) → parsed_job text ≡ Err fault
+    → (◌≡◌ {A = Result Job JobFault} (Err found) (Err fault)) ⊎ (◌≡◌ {A = Result Job JobFault} (Err found) (Err faults.OutOfMemory))
+err_answered text found fault (inl memory) e = inr (ap (λ (f : JobFault). Err f) memory)
+err_answered text found fault (inr read) e = inl (sym read ∙ e)
+
+pub fault_answered : (text : List ℕ) (result : Result Job JobFault) → IsOrMemory result (parsed_job text) → (fault : JobFault) → IsFaultOf text fault → (result ≡ Err fault) ⊎ (result ≡ Err faults.OutOfMemory)
+fault_answered text (Ok job) given fault h = no_ok job fault (sym given ∙ fault_read 0 text fault h)
+fault_answered text (Err found) given fault h = err_answered text found fault given (fault_read 0 text fault h)

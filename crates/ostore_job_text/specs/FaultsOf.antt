@@ -135,3 +135,7 @@ IsFaultFrom start text fault =
 -- the fault of a text that is a job alone
 abbrev pub IsFaultOf : List ℕ → JobFault → Type 0
 IsFaultOf text fault = IsFaultFrom 0 text fault
+
+-- this is the text's fault, unless memory ran out
+abbrev pub IsFaultOrMemory : List ℕ → JobFault → Type 0
+IsFaultOrMemory text fault = (fault ≡ faults.OutOfMemory) ⊎ IsFaultOf text fault

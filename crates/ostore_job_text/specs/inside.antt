@@ -1,3 +1,4 @@
 pub mod Spaced
 pub mod WordLoops
 pub mod LinesSpelled
+pub mod ReadFault

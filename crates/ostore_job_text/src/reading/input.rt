@@ -4,6 +4,7 @@ ghost use Rattle.std.specs.Prelude.{◌≡◌, ◌⊎◌, IfOk, IfErr, Err};
 ghost use Rattle.ostore_job_text.specs.declared.input.TryInput.{TryInput};
 ghost use Rattle.ostore_job_text.specs.Spelling.{Says, schema_part, job_start};
 ghost use Rattle.ostore_job_text.specs.TryFaults.{IsRefusedFor, IsRefusedOrMemory};
+ghost use Rattle.ostore_job_text.specs.inside.ReadFault.{IsReadOrMemory};
 
 use crate::fault::JobFault;
 use crate::input::TryInput;
@@ -28,7 +29,7 @@ fn parts_of(text: &[u8]) -> (&[u8], usize)
 /// What the parts of the text are read as.
 fn read_parts(alloc: Global, text: &[u8]) -> Result<TryInput, TryFault>
     ensures read { IfOk result (λ input. Says text.now input) }
-    ensures refused { IfErr result (λ fault. IsRefusedOrMemory text.now fault) }
+    ensures refused { IfErr result (λ fault. IsReadOrMemory text.now fault) }
 {
     if text.len() > LONGEST_TEXT {
         return Err(TryFault::Job(JobFault::TooLong { at: LONGEST_TEXT }));
