@@ -4,7 +4,7 @@ use Rattle.std.specs.List.{AllByRecursion}
 use Rattle.ostore_graph_model.specs.declared.values.Reply.{Reply}
 use Rattle.ostore_graph_model.specs.declared.commands.Command.{Command}
 use Rattle.ostore_graph_model.specs.Transaction.{Ran}
-use Rattle.ostore_job_text.specs.Spelling.{IsBuiltCommand}
+use Rattle.ostore_try_input.specs.Spelling.{IsBuiltCommand}
 
 -- the replies that came before
 abbrev pub with_front : List Reply → Ran → Ran

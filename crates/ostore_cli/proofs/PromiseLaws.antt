@@ -4,12 +4,12 @@ use Rattle.std.specs.Prelude.{◌≢◌, IfSome, codes}
 use Rattle.std.proofs.lemmas.Bool.{false≢true, cases_lt, lt-leb}
 use Rattle.std.proofs.lemmas.List.{take_all, length-take}
 use Rattle.ostore_job_text.specs.declared.fault.JobFault.TheVariants as faults
-use Rattle.ostore_job_text.specs.declared.reading.fault.TryFault.{TryFault}
-use Rattle.ostore_job_text.specs.declared.reading.fault.TryFault.TheVariants as refusals
-use Rattle.ostore_job_text.specs.FaultLine.{refusal_line}
-use Rattle.ostore_job_text.specs.Spelling.{Says, IsRefused}
-use Rattle.ostore_job_text.specs.TryFaults.{IsRefusedFor, IsRefusedOrMemory}
-use Rattle.ostore_job_text.proofs.InputSaid.{refusal_says_nothing, one_refusal}
+use Rattle.ostore_try_input.specs.declared.reading.fault.TryFault.{TryFault}
+use Rattle.ostore_try_input.specs.declared.reading.fault.TryFault.TheVariants as refusals
+use Rattle.ostore_try_input.specs.FaultLine.{refusal_line}
+use Rattle.ostore_try_input.specs.Spelling.{Says, IsRefused}
+use Rattle.ostore_try_input.specs.TryFaults.{IsRefusedFor, IsRefusedOrMemory}
+use Rattle.ostore_try_input.proofs.InputSaid.{refusal_says_nothing, one_refusal}
 use Rattle.ostore_cli.specs.declared.answers.Answer.{Answer}
 use Rattle.ostore_cli.specs.declared.answers.Answer.TheVariants.{Report, WordsRefused, TextRefused, SourceFault, OutOfMemory}
 use Rattle.ostore_cli.specs.Streams.{longest_read, IsWholeRead}

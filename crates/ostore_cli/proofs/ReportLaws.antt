@@ -15,13 +15,14 @@ use Rattle.ostore_graph_model.specs.declared.history.Committed.{Committed}
 use Rattle.ostore_graph_model.specs.Graph.{Graph, empty_graph}
 use Rattle.ostore_graph_model.specs.Transaction.{Ran, transaction}
 use Rattle.ostore_graph_model.specs.History.{txn_at, updates, HasCommitted, IsLegalHistory, AllCommitted}
-use Rattle.ostore_job_text.specs.declared.input.TryInput.{TryInput}
+use Rattle.ostore_try_input.specs.declared.input.TryInput.{TryInput}
 use Rattle.ostore_job_text.specs.declared.job.JobClient.{JobClient}
-use Rattle.ostore_job_text.specs.declared.results.TxnResult.{TxnResult}
-use Rattle.ostore_job_text.specs.declared.results.TxnResult.TheVariants.{Commit, Read, Abort}
-use Rattle.ostore_job_text.specs.Report.{report}
-use Rattle.ostore_job_text.specs.Results.{script_of, committed_of, EndedAtOnce}
-use Rattle.ostore_job_text.specs.Spelling.{Says}
+use Rattle.ostore_run_report.specs.declared.results.TxnResult.{TxnResult}
+use Rattle.ostore_run_report.specs.declared.results.TxnResult.TheVariants.{Commit, Read, Abort}
+use Rattle.ostore_run_report.specs.Report.{report}
+use Rattle.ostore_run_report.specs.Results.{committed_of, EndedAtOnce}
+use Rattle.ostore_try_input.specs.Scripts.{script_of}
+use Rattle.ostore_try_input.specs.Spelling.{Says}
 use Rattle.ostore_cli.specs.Promise.{IsReportOf, plain_tail, was_aborted, AbortsAsScripted}
 use Rattle.ostore_cli.specs.inside.Outcomes.{Moment, empty_moment, Outcomes, commits_as, AreBuilt, txn_outcome, with_before, client_outcomes, job_outcomes}
 use Rattle.ostore_cli.proofs.RunLaws.{IsRunTo, AreNamed, job_more}

@@ -11,9 +11,9 @@ use Rattle.ostore_graph_model.specs.declared.commands.Txn.{Txn}
 use Rattle.ostore_graph_model.specs.declared.history.Committed.{Committed}
 use Rattle.ostore_graph_model.specs.LawsOfHistories.{named_by}
 use Rattle.ostore_job_text.specs.declared.job.JobClient.{JobClient}
-use Rattle.ostore_job_text.specs.declared.results.TxnResult.{TxnResult}
-use Rattle.ostore_job_text.specs.declared.results.TxnResult.TheVariants.{Commit, Read, Abort, GaveUp, NotRun}
-use Rattle.ostore_job_text.specs.Results.{committed_as, committed_from, committed_by, EndedAtOnce}
+use Rattle.ostore_run_report.specs.declared.results.TxnResult.{TxnResult}
+use Rattle.ostore_run_report.specs.declared.results.TxnResult.TheVariants.{Commit, Read, Abort, GaveUp, NotRun}
+use Rattle.ostore_run_report.specs.Results.{committed_as, committed_from, committed_by, EndedAtOnce}
 use Rattle.ostore_cli.specs.Promise.{was_aborted, AbortsAsScripted}
 
 -- ---- lists

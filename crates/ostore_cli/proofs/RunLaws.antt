@@ -18,9 +18,9 @@ use Rattle.ostore_graph_model.proofs.StepLaws.{law_of_read_transactions as reads
 use Rattle.ostore_graph_model.proofs.HistoryJoins.{length-updates}
 use Rattle.ostore_graph_model.proofs.HistoryAdds.{updates-update, updates-read, before_update, before_read, added_updates, added_reads}
 use Rattle.ostore_job_text.specs.declared.job.JobClient.{JobClient}
-use Rattle.ostore_job_text.specs.declared.results.TxnResult.{TxnResult}
-use Rattle.ostore_job_text.specs.declared.results.TxnResult.TheVariants.{Commit, Read, Abort, GaveUp, NotRun}
-use Rattle.ostore_job_text.specs.Results.{committed_as, committed_from, committed_by}
+use Rattle.ostore_run_report.specs.declared.results.TxnResult.{TxnResult}
+use Rattle.ostore_run_report.specs.declared.results.TxnResult.TheVariants.{Commit, Read, Abort, GaveUp, NotRun}
+use Rattle.ostore_run_report.specs.Results.{committed_as, committed_from, committed_by}
 use Rattle.ostore_cli.specs.inside.Outcomes.{Moment, Outcomes, commits_as, txn_outcome, with_before, client_outcomes, job_outcomes}
 
 -- ---- a run

@@ -5,17 +5,18 @@ use Rattle.ostore_base.specs.Faults.{Rose}
 use Rattle.ostore_base.specs.Streams.{appended}
 use Rattle.ostore_graph_model.specs.Graph.{Graph, empty_graph}
 use Rattle.ostore_graph_model.specs.History.{IsLegalHistory, AllCommitted, IsSerial, updates}
-use Rattle.ostore_job_text.specs.declared.input.TryInput.{TryInput}
-use Rattle.ostore_job_text.specs.declared.results.Tail.{Tail}
+use Rattle.ostore_try_input.specs.declared.input.TryInput.{TryInput}
+use Rattle.ostore_run_report.specs.declared.results.Tail.{Tail}
 use Rattle.ostore_job_text.specs.declared.job.JobClient.{JobClient}
-use Rattle.ostore_job_text.specs.declared.results.TxnResult.{TxnResult}
-use Rattle.ostore_job_text.specs.declared.results.TxnResult.TheVariants.{Commit, Read, Abort, GaveUp, NotRun}
-use Rattle.ostore_job_text.specs.Report.{report}
-use Rattle.ostore_job_text.specs.Results.{script_of, committed_of, EndedAtOnce}
-use Rattle.ostore_job_text.specs.declared.reading.fault.TryFault.{TryFault}
-use Rattle.ostore_job_text.specs.FaultLine.{refusal_line}
-use Rattle.ostore_job_text.specs.Spelling.{Says, IsRefused}
-use Rattle.ostore_job_text.specs.TryFaults.{IsRefusedFor}
+use Rattle.ostore_run_report.specs.declared.results.TxnResult.{TxnResult}
+use Rattle.ostore_run_report.specs.declared.results.TxnResult.TheVariants.{Commit, Read, Abort, GaveUp, NotRun}
+use Rattle.ostore_run_report.specs.Report.{report}
+use Rattle.ostore_run_report.specs.Results.{committed_of, EndedAtOnce}
+use Rattle.ostore_try_input.specs.Scripts.{script_of}
+use Rattle.ostore_try_input.specs.declared.reading.fault.TryFault.{TryFault}
+use Rattle.ostore_try_input.specs.FaultLine.{refusal_line}
+use Rattle.ostore_try_input.specs.Spelling.{Says, IsRefused}
+use Rattle.ostore_try_input.specs.TryFaults.{IsRefusedFor}
 use Rattle.ostore_cli.specs.Commands.{IsRow}
 use Rattle.ostore_cli.specs.Streams.{IsWholeRead, AppendsFront}
 

@@ -8,7 +8,7 @@ use crate::streams::{InputFault, read_text, write_whole};
 use crate::trying::try_text;
 use crate::words::Words;
 use ostore_base::{Sink, Source, Text};
-use ostore_job_text::{TryFault, print_try_fault};
+use ostore_try_input::{TryFault, print_try_fault};
 use std::alloc::Global;
 
 /// What is to be printed.

@@ -1,15 +1,16 @@
 //! Running the text of `try`.
 
 ghost use Rattle.std.specs.Prelude.{ℕ, List, IfOk, IfErr};
-ghost use Rattle.ostore_job_text.specs.Spelling.{Says};
-ghost use Rattle.ostore_job_text.specs.TryFaults.{IsRefusedOrMemory};
+ghost use Rattle.ostore_try_input.specs.Spelling.{Says};
+ghost use Rattle.ostore_try_input.specs.TryFaults.{IsRefusedOrMemory};
 ghost use Rattle.ostore_cli.specs.Promise.{IsReportOf};
 ghost use Rattle.ostore_cli.specs.inside.Outcomes.{AreBuilt};
 
 mod running;
 
 use ostore_base::{OutOfMemory, Text};
-use ostore_job_text::{Tail, TryFault, TryInput, print_report, read_try_input};
+use ostore_run_report::{Tail, print_report};
+use ostore_try_input::{TryFault, TryInput, read_try_input};
 use running::run_job;
 use std::alloc::Global;
 

@@ -1,14 +1,12 @@
 -- Jobs: what lines put together is spelled by them.
-use Rattle.std.proofs.Common.{◌≡◌, ◌≢◌, ℕ, zero, suc, ◌+◌, ◌<◌, ◌≤◌, ◌⊎◌, Bool, true, false, not, leb, ltb, cond, List, [], ◌∷◌, ◌++◌, length, map, drop, slice_get, codes, decimal, Option, Some, None, Result, Ok, Err, refl, sym, ap, subst, ◌∙◌, append_assoc, arith, inl, inr}
+use Rattle.std.proofs.Common.{◌≡◌, ◌≢◌, ℕ, zero, suc, ◌+◌, ◌<◌, ◌≤◌, Bool, true, false, leb, ltb, cond, List, [], ◌∷◌, ◌++◌, length, map, drop, slice_get, codes, decimal, Option, Some, None, Result, Ok, Err, refl, sym, ap, subst, ◌∙◌, append_assoc, arith, inl, inr}
 use Rattle.std.specs.Prelude.{min, option_map, IfOk}
 use Rattle.std.specs.List.{AllByRecursion, flat_map, position_or_len}
 use Rattle.std.specs.Str.{bytes_eq}
 use Rattle.std.proofs.lemmas.Bool.{cases_Bool, cases_lt, ltb-true, lt-ltb, le-leb, false≢true}
 use Rattle.std.proofs.lemmas.List.{append-nil, length-append}
 use Rattle.std.proofs.lemmas.Option.{same_Some}
-use Rattle.ostore_base.specs.declared.numbers.ClientNo.{ClientNo}
 use Rattle.ostore_text_words.proofs.LineWordLaws.{bytes_are, bytes_same, chosen}
-use Rattle.ostore_schema_layout.specs.Cells.{ArePairwise}
 use Rattle.ostore_graph_model.specs.declared.commands.Command.{Command}
 use Rattle.ostore_graph_model.specs.declared.commands.Txn.{Txn}
 use Rattle.ostore_job_text.specs.declared.fault.JobFault.{JobFault}
@@ -16,7 +14,6 @@ use Rattle.ostore_job_text.specs.declared.fault.JobFault.TheVariants as faults
 use Rattle.ostore_job_text.specs.declared.job.Job.{Job}
 use Rattle.ostore_job_text.specs.declared.job.JobClient.{JobClient}
 use Rattle.ostore_job_text.specs.declared.job.JobTurn.{JobTurn}
-use Rattle.ostore_job_text.specs.declared.said.OptionSaid.{OptionSaid}
 use Rattle.ostore_job_text.specs.declared.said.ClientSaid.{ClientSaid}
 use Rattle.ostore_job_text.specs.declared.said.EntrySaid.{EntrySaid}
 use Rattle.ostore_job_text.specs.declared.said.LineSaid.{LineSaid}
@@ -24,18 +21,19 @@ use Rattle.ostore_job_text.specs.declared.said.LineSaid.TheVariants as kinds
 use Rattle.ostore_job_text.specs.declared.said.Stand.{Stand}
 use Rattle.ostore_job_text.specs.declared.said.Stand.TheVariants as stands
 use Rattle.ostore_job_text.specs.declared.reading.draft.Draft.{Draft}
-use Rattle.ostore_job_text.specs.CommandWords.{command_words}
-use Rattle.ostore_job_text.specs.Canonical.{client_name, name_of_client, begin_line, end_line, txn_lines}
-use Rattle.ostore_job_text.specs.LawfulJob.{Setting, tries, cache, frames, setting_name, setting_default, setting_most, setting_of, IsIdent, IsLawfulCommand, IsLawfulTxn, IsLawfulClient, IsLawfulTurn, IsLawfulJob}
-use Rattle.ostore_job_text.specs.JobSpelling.{setting_words, IsClientLine, AreClientLines, IsEntryWord, AreEntryWords, IsTurnsLine, AreTurnsLines, SpellsJob}
-use Rattle.ostore_job_text.specs.LinesSaid.{stand_after}
+use Rattle.ostore_command_text.specs.CommandWords.{command_words}
+use Rattle.ostore_job_text.specs.Canonical.{client_name, name_of_client, end_line, txn_lines}
+use Rattle.ostore_command_text.specs.LawfulCommands.{IsLawfulCommand}
+use Rattle.ostore_job_text.specs.LawfulJob.{Setting, tries, cache, frames, setting_of, IsLawfulTxn, IsLawfulClient, IsLawfulTurn}
+use Rattle.ostore_job_text.specs.JobSpelling.{IsClientLine, AreClientLines, IsEntryWord, AreEntryWords, IsTurnsLine, AreTurnsLines, SpellsJob}
 use Rattle.ostore_job_text.specs.inside.LinesSpelled.{IsEntryWord as SaysEntry, AreEntryWords as SayEntries, IsLineOf, AreLinesOf, LinesSay}
-use Rattle.ostore_job_text.specs.Drafted.{is_there, bad_option, opened, place_of_client, client_fault, client_of_place, turn_of, entry_fault, unless_there, first_fault, empty_draft, with_txns, closed, put_client, put_begin, put_command, put_end, unless_fault, with_entry, put_entry, put_entries, put_line, put, put_all, if_faultless, job_of, settled, finished}
+use Rattle.ostore_job_text.specs.Drafted.{is_there, bad_option, opened, place_of_client, client_fault, client_of_place, turn_of, entry_fault, unless_there, with_txns, closed, put_client, put_begin, put_command, put_end, unless_fault, with_entry, put_entry, put_entries, put_line, put, put_all, if_faultless, job_of, finished}
 use Rattle.ostore_job_text.specs.ParsedJob.{parsed_from, parsed_job, IsOrMemory}
 use Rattle.ostore_job_text.proofs.JobTaken.{parsed_says}
 use Rattle.ostore_job_text.proofs.LineAgain.{faultless}
 use Rattle.ostore_job_text.proofs.ClientAgain.{AreApart, put_faultless}
-use Rattle.ostore_job_text.proofs.OptionTaken.{NameAll, all_join, settings_named, number_by, number_default, options_given, all_lawful}
+use Rattle.ostore_job_text.proofs.TextsUtf8.{texts_utf8}
+use Rattle.ostore_job_text.proofs.OptionTaken.{all_join, settings_named, number_by, number_default, options_given, all_lawful}
 
 -- ---- a fault stays
 
@@ -581,15 +579,22 @@ no_client = record { name = []; tries = 0; cache = 0; frames = 0; txns = [] }
 pub lines_spell : (text : List ℕ) (job : Job) → LinesSay text job → SpellsJob text job
 lines_spell text job s =
     let b = rest_taken s.said stands.Start [] no_client [] false [] [] _ job (tt, omega arith) s.lines s.put in
+    let client_lines : AreClientLines job.clients b.client_part = subst (λ (cs : List JobClient). AreClientLines cs b.client_part) (sym b.joined) b.client_lines in
     record {
       short = s.short;
       utf8 = s.utf8;
       client_part = b.client_part;
       turns_part = b.turns_part;
       lines = b.parts;
-      client_lines = subst (λ (cs : List JobClient). AreClientLines cs b.client_part) (sym b.joined) b.client_lines;
+      client_lines = client_lines;
       turns_lines = b.turns_lines;
-      lawful = record { few = b.few; own_names = b.apart; lawful_clients = subst (AllByRecursion IsLawfulClient) (sym b.joined) b.lawful_more; lawful_turns = b.lawful_turns };
+      lawful = record {
+        few = b.few;
+        own_names = b.apart;
+        lawful_clients = subst (AllByRecursion IsLawfulClient) (sym b.joined) b.lawful_more;
+        lawful_turns = b.lawful_turns;
+        utf8_texts = texts_utf8 text job.clients b.client_part b.turns_part s.utf8 b.parts client_lines;
+      };
     }
 
 -- what is read from a place on is spelled there

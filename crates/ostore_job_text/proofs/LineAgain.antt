@@ -17,14 +17,16 @@ use Rattle.ostore_job_text.specs.declared.said.Stand.{Stand}
 use Rattle.ostore_job_text.specs.declared.said.Stand.TheVariants as stands
 use Rattle.ostore_job_text.specs.declared.reading.draft.Draft.{Draft}
 use Rattle.std.specs.Prelude.{Option, Some, None}
-use Rattle.ostore_job_text.specs.CommandWords.{command_words}
+use Rattle.ostore_command_text.specs.CommandWords.{command_words}
 use Rattle.ostore_job_text.specs.Canonical.{begin_line, end_line, txn_lines}
-use Rattle.ostore_job_text.specs.LawfulJob.{IsLawfulCommand, IsLawfulTxn}
-use Rattle.ostore_job_text.specs.LinesSaid.{command_by, in_txn_at, in_client_at, said_by_verb, said_at, stand_after, said_from}
+use Rattle.ostore_command_text.specs.LawfulCommands.{IsLawfulCommand}
+use Rattle.ostore_job_text.specs.LawfulJob.{IsLawfulTxn}
+use Rattle.ostore_command_text.specs.CommandsSaid.{command_by}
+use Rattle.ostore_job_text.specs.LinesSaid.{in_txn_at, in_client_at, said_by_verb, said_at, stand_after, said_from}
 use Rattle.ostore_job_text.specs.Drafted.{put, put_begin, put_command, put_end}
 use Rattle.ostore_job_text.specs.ParsedJob.{with_draft}
 use Rattle.ostore_job_text.proofs.DraftLoops.{line_grouped}
-use Rattle.ostore_job_text.proofs.CommandAgain.{behind_verb, verb_of, command_again}
+use Rattle.ostore_command_text.proofs.CommandAgain.{behind_verb, verb_of, command_again}
 
 -- ---- the first of lines
 

@@ -17,9 +17,10 @@ use Rattle.ostore_job_text.specs.declared.said.LineSaid.TheVariants as kinds
 use Rattle.ostore_job_text.specs.declared.said.Stand.{Stand}
 use Rattle.ostore_job_text.specs.declared.said.Stand.TheVariants as stands
 use Rattle.ostore_job_text.specs.WordsSaid.{is_count, entry_by, entry_of}
-use Rattle.ostore_job_text.specs.LinesSaid.{command_by, option_of, options_of, client_of, words_from, client_at, entry_said, entries_of, turns_at, in_txn_at, in_turns_at, at_start_at, in_client_at, said_by_verb, said_at, stand_after, ends_at, said_from}
+use Rattle.ostore_command_text.specs.CommandsSaid.{command_by}
+use Rattle.ostore_job_text.specs.LinesSaid.{option_of, options_of, client_of, words_from, client_at, entry_said, entries_of, turns_at, in_txn_at, in_turns_at, at_start_at, in_client_at, said_by_verb, said_at, stand_after, ends_at, said_from}
 use Rattle.ostore_job_text.specs.inside.LinesSpelled.{option_words, IsLawfulOption, IsEntryWord, AreEntryWords, IsLineOf, MayStand, MayEnd, AreLinesOf}
-use Rattle.ostore_job_text.proofs.CommandTaken.{choice, fault_taken, then_is, behind, command_taken}
+use Rattle.ostore_command_text.proofs.CommandTaken.{choice, fault_taken, then_is, behind, command_taken}
 
 -- the words of a line from one on, as a part of the list
 pub bare_from_drop : (words : List PlacedWord) (i : ℕ) → bare_from words i ≡ map (λ word. word.bytes) (drop i words)

@@ -21,27 +21,28 @@ use Rattle.ostore_job_text.specs.declared.said.Stand.{Stand}
 use Rattle.ostore_job_text.specs.declared.said.Stand.TheVariants as stands
 use Rattle.ostore_job_text.specs.declared.reading.draft.Draft.{Draft}
 use Rattle.ostore_job_text.specs.Canonical.{name_of_client, client_name}
-use Rattle.ostore_job_text.specs.LawfulJob.{IsIdent, IsLawfulClient, IsLawfulTurn}
+use Rattle.ostore_command_text.specs.LawfulCommands.{IsIdent}
+use Rattle.ostore_job_text.specs.LawfulJob.{IsLawfulClient, IsLawfulTurn}
 use Rattle.ostore_job_text.specs.JobSpelling.{IsEntryWord, AreEntryWords, IsTurnsLine, AreTurnsLines}
 use Rattle.ostore_job_text.specs.WordsSaid.{entry_of}
 use Rattle.ostore_job_text.specs.LinesSaid.{words_from, entry_said, entries_of, turns_at, in_turns_at, at_start_at, in_client_at, said_at, said_from, ends_at}
 use Rattle.ostore_job_text.specs.Drafted.{place_of_client, client_of_place, turn_of, entry_fault, closed, put_entry, put_entries, put_line, put, put_all}
 use Rattle.ostore_job_text.proofs.LineTaken.{bare_from_drop}
-use Rattle.ostore_job_text.proofs.WordAgain.{no_mark, at_star}
+use Rattle.ostore_command_text.proofs.WordAgain.{no_mark, at_star}
 use Rattle.ostore_text_words.proofs.WordLaws.{identifier_again as ident_again}
 use Rattle.ostore_job_text.proofs.LineAgain.{First, first_line, by_verb, after, line_step, faultless}
 use Rattle.ostore_job_text.proofs.ClientAgain.{AreApart, Holds, other_name, put_faultless}
 
 -- ---- the client that an entry names
 
-at_place : {X : Type 0} (P : X → Type 0) (xs : List X) (k : ℕ) (x : X) → AllByRecursion P xs → slice_get xs k ≡ Some x → P x
+pub at_place : {X : Type 0} (P : X → Type 0) (xs : List X) (k : ℕ) (x : X) → AllByRecursion P xs → slice_get xs k ≡ Some x → P x
 at_place P [] k x h e = absurd cc
 at_place P (y ∷ ys) zero x h e =
     let same : y ≡ x = cc in
     subst P same h.0
 at_place P (y ∷ ys) (suc k) x h e = at_place P ys k x h.1 e
 
-there : {X : Type 0} (xs : List X) (k : ℕ) → k < length xs → (x : X) × (slice_get xs k ≡ Some x)
+pub there : {X : Type 0} (xs : List X) (k : ℕ) → k < length xs → (x : X) × (slice_get xs k ≡ Some x)
 there [] k h = absurd (omega arith)
 there (x ∷ xs) zero h = (x, refl)
 there (x ∷ xs) (suc k) h = there xs k (omega arith)

@@ -9,7 +9,7 @@ use Rattle.ostore_job_text.specs.declared.job.Job.{Job}
 use Rattle.ostore_job_text.specs.declared.job.JobClient.{JobClient}
 use Rattle.ostore_job_text.specs.declared.job.JobTurn.{JobTurn}
 use Rattle.ostore_job_text.specs.Limits.{default_tries, default_cache, default_frames}
-use Rattle.ostore_job_text.specs.CommandWords.{command_words}
+use Rattle.ostore_command_text.specs.CommandWords.{command_words}
 
 -- an option that isn't at its default
 abbrev pub option_words : List ℕ → ℕ → ℕ → List (List ℕ)

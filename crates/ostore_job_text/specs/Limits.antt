@@ -26,7 +26,3 @@ most_frames = 65536
 -- how many turns an entry of `turns` has at most
 abbrev pub most_turns : ℕ
 most_turns = 1000000
-
--- the greatest index of a list
-abbrev pub greatest_index : ℕ
-greatest_index = 4294967295

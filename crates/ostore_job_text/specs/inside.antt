@@ -1,4 +1,2 @@
-pub mod Spaced
 pub mod WordLoops
 pub mod LinesSpelled
-pub mod ReadFault

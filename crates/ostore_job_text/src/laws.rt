@@ -6,9 +6,6 @@ ghost use Rattle.ostore_job_text.specs.declared.fault.JobFault.{JobFault};
 ghost use Rattle.ostore_job_text.specs.declared.job.Job.{Job};
 ghost use Rattle.ostore_job_text.specs.JobSpelling.{SpellsJob};
 ghost use Rattle.ostore_job_text.specs.ParsedJob.{parsed_job};
-ghost use Rattle.ostore_job_text.specs.Spelling.{IsRefused};
-ghost use Rattle.ostore_job_text.specs.TryFaults.{IsRefusedFor};
-ghost use Rattle.ostore_job_text.specs.declared.reading.fault.TryFault.{TryFault};
 
 /// What a text spells is what it is read as.
 pub fn spelled_is_read()
@@ -30,15 +27,4 @@ pub fn one_job_is_spelled()
 pub fn first_fault_is_read()
     ensures { (text : List ℕ) → (fault : JobFault) →
         (parsed_job text ≡ Err fault) ↔ IsFaultOf text fault }
-{}
-
-/// A text for `try` that is refused for something says no input that is run.
-pub fn refusal_says_nothing()
-    ensures { (text : List ℕ) → (fault : TryFault) → IsRefusedFor text fault → IsRefused text }
-{}
-
-/// A text for `try` is refused for at most one thing.
-pub fn one_refusal()
-    ensures { (text : List ℕ) → (one other : TryFault) →
-        IsRefusedFor text one → IsRefusedFor text other → one ≡ other }
 {}

@@ -128,7 +128,7 @@ dotted_ascii first second h k = word_bytes_ascii (dotted first second) ((dotted_
 
 -- ---- numbers
 
-abbrev Digits : ℕ → List ℕ → Type 0
+abbrev pub Digits : ℕ → List ℕ → Type 0
 Digits n digits = (0 < length digits) × (list_all is_word_byte digits ≡ true)
 
 digit_one : (n : ℕ) → n < 10 → Digits n ((48 + n) ∷ [])
@@ -140,7 +140,7 @@ digit_more n digits h before =
     let long = length-append digits ((48 + n % 10) ∷ []) in
     (omega arith, list_all-append is_word_byte digits ((48 + n % 10) ∷ []) ∙ and_from (list_all is_word_byte digits) (list_all is_word_byte ((48 + n % 10) ∷ [])) before.1 ((digit_one (n % 10) last).1))
 
-decimal_bytes : (n : ℕ) → n < 2 ^ 64 → Digits n (decimal n)
+pub decimal_bytes : (n : ℕ) → n < 2 ^ 64 → Digits n (decimal n)
 decimal_bytes n h = decimal_by_steps Digits digit_one digit_more n h
 
 pub decimal_bare : (n : ℕ) → n < 2 ^ 64 → is_bare (decimal n) ≡ true
@@ -151,7 +151,7 @@ decimal_bare n h =
 pub decimal_ascii : (n : ℕ) → n < 2 ^ 64 → list_all is_ascii_byte (decimal n) ≡ true
 decimal_ascii n h = word_bytes_ascii (decimal n) ((decimal_bytes n h).1)
 
-signed_bytes : (n : ℤ) → FitsSigned w64 n → (0 < length (signed_decimal n)) × (list_all is_word_byte (signed_decimal n) ≡ true)
+pub signed_bytes : (n : ℤ) → FitsSigned w64 n → (0 < length (signed_decimal n)) × (list_all is_word_byte (signed_decimal n) ≡ true)
 signed_bytes (pos n) fits = decimal_bytes n (omega (arith, fits.sfits))
 signed_bytes (negsuc n) fits = (omega arith, (decimal_bytes (suc n) (omega (arith, fits.sfits))).1)
 

@@ -8,3 +8,5 @@ pub mod PrintedLines
 pub mod PlaceLaws
 pub mod LineWordLaws
 pub mod QuotedLaws
+pub mod Utf8Words
+pub mod WordsUtf8

@@ -12,7 +12,7 @@ mod utf8;
 pub use fault::TextFault;
 pub use lines::{Line, LineReader, Word, find_parting, read_lines};
 pub use names::{is_identifier, read_dotted, read_name};
-pub use numbers::{read_count, read_int};
+pub use numbers::{push_int, push_number, read_count, read_int};
 pub use quoted::push_quoted;
 pub use utf8::utf8_fault;
 

@@ -1,10 +1,12 @@
 //! Numbers, each in its one form: no sign but `-`, and no leading zero.
 
-ghost use Rattle.std.specs.Prelude.{◌≡◌};
+ghost use Rattle.std.specs.Prelude.{◌≡◌, ◌++◌, decimal, OnOk};
+ghost use Rattle.std.specs.Fmt.{signed_decimal};
 ghost use Rattle.std.specs.Str.{bytes_eq};
 ghost use Rattle.ostore_text_words.specs.Words.{int_at, count_at};
 
 use itoa::{Buffer, Integer};
+use ostore_base::{OutOfMemory, Text};
 use std::str;
 
 /// Whether the word is what is printed of the number.
@@ -42,4 +44,20 @@ pub fn read_count(word: &[u8], least: u64, most: u64) -> Option<u64>
         return None;
     }
     is_form_of(word, number).then_some(number)
+}
+
+/// Adds a number in decimal.
+pub fn push_number(out: &mut Text, number: u64) -> Result<(), OutOfMemory>
+    ensures { OnOk result (out.new ≡ out.old ++ decimal number) }
+{
+    let mut buffer = Buffer::new();
+    out.push_bytes(buffer.format(number).as_bytes())
+}
+
+/// Adds an int in decimal.
+pub fn push_int(out: &mut Text, int: i64) -> Result<(), OutOfMemory>
+    ensures { OnOk result (out.new ≡ out.old ++ signed_decimal int) }
+{
+    let mut buffer = Buffer::new();
+    out.push_bytes(buffer.format(int).as_bytes())
 }

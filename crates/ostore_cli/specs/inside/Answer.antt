@@ -1,10 +1,10 @@
 -- The answer to a command line, and what printing it comes to.
 use Rattle.std.specs.Prelude.{◌≡◌, ◌≢◌, ◌⊎◌, ℕ, List, codes}
 use Rattle.ostore_base.specs.Faults.{Rose}
-use Rattle.ostore_job_text.specs.declared.reading.fault.TryFault.{TryFault}
-use Rattle.ostore_job_text.specs.declared.reading.fault.TryFault.TheVariants as faults
-use Rattle.ostore_job_text.specs.FaultLine.{refusal_line}
-use Rattle.ostore_job_text.specs.TryFaults.{IsRefusedFor}
+use Rattle.ostore_try_input.specs.declared.reading.fault.TryFault.{TryFault}
+use Rattle.ostore_try_input.specs.declared.reading.fault.TryFault.TheVariants as faults
+use Rattle.ostore_try_input.specs.FaultLine.{refusal_line}
+use Rattle.ostore_try_input.specs.TryFaults.{IsRefusedFor}
 use Rattle.ostore_cli.specs.Commands.{IsRow}
 use Rattle.ostore_cli.specs.Promise.{End, IsReportOf, IsReportFrom, IsRefusalOf, IsReadThrough, IsUntouched, Prints, PrintsFront, PrintsLine}
 use Rattle.ostore_cli.specs.declared.answers.Answer.{Answer}

@@ -6,9 +6,9 @@ use Rattle.ostore_graph_model.specs.declared.commands.Txn.{Txn}
 use Rattle.ostore_graph_model.specs.Graph.{Graph, empty_graph}
 use Rattle.ostore_graph_model.specs.Transaction.{Ran, transaction}
 use Rattle.ostore_job_text.specs.declared.job.JobClient.{JobClient}
-use Rattle.ostore_job_text.specs.declared.results.TxnResult.{TxnResult}
-use Rattle.ostore_job_text.specs.declared.results.TxnResult.TheVariants.{Commit, Read, Abort}
-use Rattle.ostore_job_text.specs.Spelling.{IsBuiltCommand}
+use Rattle.ostore_run_report.specs.declared.results.TxnResult.{TxnResult}
+use Rattle.ostore_run_report.specs.declared.results.TxnResult.TheVariants.{Commit, Read, Abort}
+use Rattle.ostore_try_input.specs.Spelling.{IsBuiltCommand}
 use Rattle.ostore_cli.specs.Plain.{graph_of}
 use Rattle.ostore_cli.specs.declared.trying.running.Reached.{Reached}
 

@@ -8,7 +8,7 @@ ghost use Rattle.ostore_graph_model.specs.Graph.{last_serial};
 ghost use Rattle.ostore_graph_model.specs.Paths.{held};
 ghost use Rattle.ostore_graph_model.specs.Deeds.{Vars};
 ghost use Rattle.ostore_graph_model.specs.Deeds.Objects.{greatest_serial, first_value, shown_scalar, drawn};
-ghost use Rattle.ostore_job_text.specs.Spelling.{IsBuiltCommand};
+ghost use Rattle.ostore_try_input.specs.Spelling.{IsBuiltCommand};
 ghost use Rattle.ostore_cli.specs.declared.plain.graph.PlainObject.{PlainObject};
 ghost use Rattle.ostore_cli.specs.Plain.{graph_of, vars_of, object_of, Gives, GetsFound, SetsFound, step_on, new_on};
 

@@ -3,7 +3,7 @@
 ghost use Rattle.std.specs.Prelude.{◌≡◌, IfOk};
 ghost use Rattle.std.specs.List.{AllByRecursion};
 ghost use Rattle.ostore_graph_model.specs.Transaction.{Runs};
-ghost use Rattle.ostore_job_text.specs.Spelling.{IsBuiltCommand};
+ghost use Rattle.ostore_try_input.specs.Spelling.{IsBuiltCommand};
 ghost use Rattle.ostore_cli.specs.Plain.{graph_of};
 
 use crate::plain::commands::run_command;

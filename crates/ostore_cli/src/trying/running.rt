@@ -2,14 +2,15 @@
 
 ghost use Rattle.std.specs.Prelude.{◌≡◌, IfOk};
 ghost use Rattle.std.specs.List.{AllByRecursion};
-ghost use Rattle.ostore_job_text.specs.Spelling.{IsBuiltCommand};
+ghost use Rattle.ostore_try_input.specs.Spelling.{IsBuiltCommand};
 ghost use Rattle.ostore_cli.specs.inside.Outcomes.{moment_of, empty_moment, AreBuiltTxns, AreBuilt};
 ghost use Rattle.ostore_cli.specs.inside.Outcomes.{txn_outcome, client_outcomes, job_outcomes};
 
 use crate::plain::{PlainGraph, run_txn};
 use ostore_base::OutOfMemory;
 use ostore_graph_model::Txn;
-use ostore_job_text::{ClientResults, JobClient, Results, TxnResult};
+use ostore_job_text::JobClient;
+use ostore_run_report::{ClientResults, Results, TxnResult};
 use ostore_schema_layout::Schema;
 use std::alloc::Global;
 

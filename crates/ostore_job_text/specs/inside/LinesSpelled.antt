@@ -12,11 +12,11 @@ use Rattle.ostore_job_text.specs.declared.said.LineSaid.TheVariants as kinds
 use Rattle.ostore_job_text.specs.declared.said.Stand.{Stand}
 use Rattle.ostore_job_text.specs.declared.said.Stand.TheVariants as stands
 use Rattle.ostore_job_text.specs.Limits.{longest_text, most_turns}
-use Rattle.ostore_job_text.specs.CommandWords.{command_words}
+use Rattle.ostore_command_text.specs.CommandWords.{command_words}
 use Rattle.ostore_job_text.specs.WordsSaid.{is_count}
 use Rattle.ostore_job_text.specs.LinesSaid.{stand_after}
 use Rattle.ostore_job_text.specs.Drafted.{empty_draft, put_all, finished}
-use Rattle.ostore_job_text.specs.LawfulJob.{IsIdent, IsLawfulCommand}
+use Rattle.ostore_command_text.specs.LawfulCommands.{IsIdent, IsLawfulCommand}
 
 -- an option: any word that may stand, and a count
 abbrev pub option_words : OptionSaid → List (List ℕ)

@@ -25,12 +25,3 @@ entry_at line i = do
   word ← word_at line i
   entry ← or_at word.at (entry_of word.bytes)
   Ok (entry_said word.at entry)
-
--- what a word says that stands at a place, or the fault there
-abbrev pub LacksAt : {X : Type 0} → ℕ → TextFault → Option X → Type 0
-LacksAt at (texts.Syntax place) said = (said ≡ None) × (place ≡ at)
-LacksAt at texts.OutOfMemory said = Unit {0}
-
-abbrev pub GivesAt : {X : Type 0} → ℕ → Result X TextFault → Option X → Type 0
-GivesAt at (Ok x) said = said ≡ Some x
-GivesAt at (Err fault) said = LacksAt at fault said

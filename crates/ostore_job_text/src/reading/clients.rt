@@ -9,9 +9,9 @@ ghost use Rattle.ostore_job_text.specs.WordsSaid.{has_leading_zero, is_count, en
 ghost use Rattle.ostore_job_text.specs.LinesSaid.{client_at, turns_at, options_of, entries_of, words_from};
 ghost use Rattle.ostore_job_text.specs.inside.WordLoops.{count_at, option_at, entry_at};
 
-use super::words::around_byte;
 use crate::said::{ClientSaid, EntriesSaid, EntrySaid, LineSaid, OptionSaid, OptionsSaid};
 use ostore_base::{ListOf, Text};
+use ostore_command_text::around_byte;
 use ostore_text_words::{Line, TextFault, Word, is_identifier, read_count};
 use std::alloc::Global;
 

@@ -63,7 +63,7 @@ fn bad_byte(text: &[u8], start: usize) -> Option<usize>
 
 /// The job that stands in the text from a place on, at which a line begins. Places count from the text's start.
 #[tactic(auto, unfolding(crate::specs::ParsedJob::parsed_from))]
-pub(super) fn read_job_from(alloc: Global, text: &[u8], start: usize) -> Result<Job, JobFault>
+pub fn read_job_from(alloc: Global, text: &[u8], start: usize) -> Result<Job, JobFault>
     ensures { IsOrMemory result (parsed_from start text.now) }
 {
     if text.len() > LONGEST_TEXT {

@@ -6,8 +6,8 @@ ghost use Rattle.ostore_text_words.specs.Seen.{seen_line};
 ghost use Rattle.ostore_job_text.specs.LinesSaid.{in_txn_at, in_turns_at, at_start_at, in_client_at, said_by_verb, said_at, stand_after, ends_at};
 
 use super::clients::{read_client, read_turns};
-use super::commands::read_command;
 use crate::said::{LineSaid, Stand};
+use ostore_command_text::read_command;
 use ostore_text_words::{Line, LineReader, TextFault, Word};
 use std::alloc::Global;
 

@@ -1,0 +1,3 @@
+pub mod CommandTaken
+pub mod WordAgain
+pub mod CommandAgain

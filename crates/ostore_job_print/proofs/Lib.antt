@@ -1,0 +1,2 @@
+pub mod PrintWords
+pub mod CanonicalAgain

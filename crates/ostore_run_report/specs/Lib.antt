@@ -1,0 +1,3 @@
+-- What the contracts of public calls rest on.
+pub mod Results
+pub mod Report
