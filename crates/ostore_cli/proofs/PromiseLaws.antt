@@ -37,7 +37,7 @@ abbrev too_long_fault : TryFault
 too_long_fault = refusals.Job (faults.TooLong 4194304)
 
 too_long : (text : List ℕ) → 4194304 < length text → IsRefusedFor text too_long_fault
-too_long text long = inl (record { long = long; told = refl })
+too_long text long = inl (record { long = long; is = refl })
 
 -- a refused text that a source had, and its line
 abbrev Refusal : Option (List ℕ) → List ℕ → Type 0

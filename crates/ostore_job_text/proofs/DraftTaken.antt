@@ -40,7 +40,7 @@ use Rattle.ostore_job_text.proofs.OptionTaken.{all_join, settings_named, number_
 stuck : (draft : Draft) (said : LineSaid) (fault : JobFault) → draft.fault ≡ Some fault → put draft said ≡ draft
 stuck draft said fault h = ap (λ (f : Option JobFault). unless_fault f (put_line draft said) draft) h
 
-all_stuck : (said : List LineSaid) (draft : Draft) (fault : JobFault) → draft.fault ≡ Some fault → put_all draft said ≡ draft
+pub all_stuck : (said : List LineSaid) (draft : Draft) (fault : JobFault) → draft.fault ≡ Some fault → put_all draft said ≡ draft
 unfolding put_all
 all_stuck [] draft fault h = refl
 all_stuck (first ∷ said) draft fault h = ap (λ (d : Draft). put_all d said) (stuck draft first fault h) ∙ all_stuck said draft fault h
@@ -183,7 +183,7 @@ leb-false a b h =
       | inr le ↦ true_false (leb a b) (le-leb a b le) h
     ]
 
-new_client : (clients : List JobClient) (name : List ℕ) → place_of_client clients name ≡ None → AllByRecursion (λ client. client.name ≢ name) clients
+pub new_client : (clients : List JobClient) (name : List ℕ) → place_of_client clients name ≡ None → AllByRecursion (λ client. client.name ≢ name) clients
 new_client clients name e =
     let p = position_or_len (λ (client : JobClient). bytes_eq client.name name) clients in
     elim (chosen (ltb p (length clients)) (Some p) None None e) [
@@ -288,7 +288,7 @@ found_client (client ∷ clients) name (suc k) e lt =
           found_client clients name k (omega (arith, e, more)) (omega (arith, lt))
     ]
 
-named_client : (clients : List JobClient) (name : List ℕ) (k : ℕ) → place_of_client clients name ≡ Some k → (k < length clients) × (client : JobClient) × (slice_get clients k ≡ Some client) × (client.name ≡ name)
+pub named_client : (clients : List JobClient) (name : List ℕ) (k : ℕ) → place_of_client clients name ≡ Some k → (k < length clients) × (client : JobClient) × (slice_get clients k ≡ Some client) × (client.name ≡ name)
 named_client clients name k e =
     let p = position_or_len (λ (client : JobClient). bytes_eq client.name name) clients in
     elim (chosen (ltb p (length clients)) (Some p) None (Some k) e) [

@@ -56,7 +56,7 @@ worded_bare (line ∷ lines) =
     ∙ ap (λ (t : Bool). cond t (bare_words line ∷ bare_lines (filter has_words lines)) (bare_lines (filter has_words lines))) test
     ∙ ap (λ (ls : List (List (List ℕ))). cond (some_words (bare_words line)) (bare_words line ∷ ls) ls) (worded_bare lines)
 
-seen_from : (at : ℕ) (parts : List (List ℕ)) → map (λ line. line_of line.at line.bytes) (bytes_from at parts) ≡ lines_from at parts
+pub seen_from : (at : ℕ) (parts : List (List ℕ)) → map (λ line. line_of line.at line.bytes) (bytes_from at parts) ≡ lines_from at parts
 seen_from at [] = refl
 seen_from at (line ∷ parts) = ap (λ (ls : List PlacedLine). line_of at line ∷ ls) (seen_from (at + length line + 1) parts)
 

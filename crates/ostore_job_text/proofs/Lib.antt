@@ -11,3 +11,7 @@ pub mod JobAgain
 pub mod OptionTaken
 pub mod TextsUtf8
 pub mod DraftTaken
+pub mod BadOptions
+pub mod NamedFaults
+pub mod RisingLines
+pub mod FaultsTold

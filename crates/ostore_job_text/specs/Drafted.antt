@@ -1,5 +1,5 @@
--- The job that lines put together, one after the other, and the first fault of what they name. A text has its
--- faults in the order of its lines, so the first of them has the least place, and at one place the least number.
+-- The job that lines put together, one after the other, and the fault of what they name that is met first. That it is
+-- the one which comes first of all that they have (FaultsOf) is a law.
 use Rattle.std.specs.Prelude.{ℕ, Bool, false, true, not, ◌&&◌, if◌then◌else◌, nat_le, min, List, [], ◌∷◌, ◌++◌, length, codes, Option, Some, None, Result, Ok, Err, option_map}
 use Rattle.std.specs.List.{find, position, list_any}
 use Rattle.std.specs.Str.{bytes_eq}

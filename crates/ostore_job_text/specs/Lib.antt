@@ -7,6 +7,7 @@ pub mod LinesSaid
 pub mod Drafted
 pub mod ParsedJob
 pub mod LawfulJob
+pub mod FaultsOf
 pub mod JobSpelling
 -- What only ties private code.
 pub mod inside

@@ -1,6 +1,8 @@
 //! Laws of the texts of jobs, which hold of every text and every job.
 
-ghost use Rattle.std.specs.Prelude.{◌≡◌, ℕ, List, Ok};
+ghost use Rattle.std.specs.Prelude.{◌≡◌, ◌↔◌, ℕ, List, Ok, Err};
+ghost use Rattle.ostore_job_text.specs.FaultsOf.{IsFaultOf};
+ghost use Rattle.ostore_job_text.specs.declared.fault.JobFault.{JobFault};
 ghost use Rattle.ostore_job_text.specs.declared.job.Job.{Job};
 ghost use Rattle.ostore_job_text.specs.JobSpelling.{SpellsJob};
 ghost use Rattle.ostore_job_text.specs.ParsedJob.{parsed_job};
@@ -19,4 +21,10 @@ pub fn read_is_spelled()
 pub fn one_job_is_spelled()
     ensures { (text : List ℕ) → (one other : Job) →
         SpellsJob text one → SpellsJob text other → one ≡ other }
+{}
+
+/// What a text is read as is a fault exactly where the text has it, before all others that it has.
+pub fn first_fault_is_read()
+    ensures { (text : List ℕ) → (fault : JobFault) →
+        (parsed_job text ≡ Err fault) ↔ IsFaultOf text fault }
 {}

@@ -105,7 +105,7 @@ line_rises at most line rest fits h =
 
 -- ---- the lines of a text
 
-lines_rise : (at most : ℕ) (parts : List (List ℕ)) → at + span parts ≤ most + 1 → RiseWithin at most (places (filter has_words (lines_from at parts)))
+pub lines_rise : (at most : ℕ) (parts : List (List ℕ)) → at + span parts ≤ most + 1 → RiseWithin at most (places (filter has_words (lines_from at parts)))
 lines_rise at most [] fits = tt
 lines_rise at most (line ∷ parts) fits =
     let end = at + length line in

@@ -16,8 +16,10 @@ use Rattle.ostore_job_text.specs.Limits.{longest_text}
 use Rattle.ostore_job_text.specs.ParsedJob.{parsed_from}
 use Rattle.ostore_try_input.specs.Spelling.{AreBuiltTypes, AreBuiltClients, Says, IsRefused, schema_part, job_start}
 use Rattle.ostore_try_input.specs.TryFaults.{IsRefusedFor, IsRefusedOrMemory}
+use Rattle.ostore_try_input.specs.inside.ReadFault.{IsReadAs, IsReadOrMemory}
 use Rattle.ostore_job_text.proofs.JobAgain.{spelled_from}
 use Rattle.ostore_job_text.proofs.DraftTaken.{read_spells}
+use Rattle.ostore_job_text.proofs.FaultsTold.{fault_told, fault_read}
 
 -- ---- the parts of a text, as they are read
 
@@ -32,6 +34,22 @@ said text part start schema job p s short spelled read types clients = record {
     built = clients;
   };
 }
+
+-- what a text is read as is what it is refused for
+refused_as : (text : List ℕ) (fault : TryFault) → IsReadAs text fault → IsRefusedFor text fault
+refused_as text (answers.Schema fault) h = h
+refused_as text (answers.Job fault) (inl h) = inl h
+refused_as text (answers.Job fault) (inr h) = inr (record { schema = h.schema; has = h.has; told = fault_told (job_start text) text fault h.told })
+refused_as text answers.Refused h = h
+refused_as text answers.OutOfMemory h = absurd h
+
+refused_or : (text : List ℕ) (fault : TryFault) → IsReadOrMemory text fault → IsRefusedOrMemory text fault
+refused_or text fault (inl memory) = inl memory
+refused_or text fault (inr read) = inr (refused_as text fault read)
+
+pub refused_so : (text : List ℕ) (result : Result TryInput TryFault) → IfErr result (λ fault. IsReadOrMemory text fault) → IfErr result (λ fault. IsRefusedOrMemory text fault)
+refused_so text (Ok input) read = tt
+refused_so text (Err fault) read = refused_or text fault read
 
 -- ---- a text says one input
 
@@ -62,7 +80,7 @@ only_said text (Err fault) says = tt
 pub refusal_says_nothing : (text : List ℕ) (fault : TryFault) → IsRefusedFor text fault → IsRefused text
 refusal_says_nothing text (answers.Schema fault) h = λ input says. no_ok input.schema fault (sym (schema_read text input says) ∙ h.told)
 refusal_says_nothing text (answers.Job fault) (inl h) = λ input says. absurd (omega (arith, h.long, says.short))
-refusal_says_nothing text (answers.Job fault) (inr h) = λ input says. no_ok input.job fault (sym (job_read text input says) ∙ h.told)
+refusal_says_nothing text (answers.Job fault) (inr h) = λ input says. no_ok input.job fault (sym (job_read text input says) ∙ fault_read (job_start text) text fault h.told)
 refusal_says_nothing text answers.Refused h = λ input says.
     let schema : input.schema ≡ h.schema = same_ok input.schema h.schema (sym (schema_read text input says) ∙ h.has.parsed_so) in
     let job : input.job ≡ h.job = same_ok input.job h.job (sym (job_read text input says) ∙ h.told) in
@@ -83,8 +101,9 @@ Told text fault =
 
 told : (text : List ℕ) (fault : TryFault) → IsRefusedFor text fault → Told text fault
 told text (answers.Schema fault) h = inr (h.short, sym (ap (λ (r : Result Schema SchemaFault). fault_of_parts r (parsed_from (job_start text) text)) h.told))
-told text (answers.Job fault) (inl h) = inl (h.long, ap (λ (f : JobFault). answers.Job f) h.told)
-told text (answers.Job fault) (inr h) = inr (h.has.short, sym (λ i. fault_of_parts (h.has.parsed_so i) (h.told i)))
+told text (answers.Job fault) (inl h) = inl (h.long, ap (λ (f : JobFault). answers.Job f) h.is)
+told text (answers.Job fault) (inr h) =
+    let read = fault_read (job_start text) text fault h.told in inr (h.has.short, sym (λ i. fault_of_parts (h.has.parsed_so i) (read i)))
 told text answers.Refused h = inr (h.has.short, sym (λ i. fault_of_parts (h.has.parsed_so i) (h.told i)))
 told text answers.OutOfMemory h = absurd h
 

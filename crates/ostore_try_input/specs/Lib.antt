@@ -3,3 +3,5 @@ pub mod Spelling
 pub mod Scripts
 pub mod TryFaults
 pub mod FaultLine
+-- What only ties private code.
+pub mod inside

@@ -1,23 +1,18 @@
 -- Why a text for `try` is refused. The length of the whole text is judged first, then the schema's part, then the
 -- job's, whose places count from the start of the whole text. A text without a fault is refused where its schema
 -- or its job is none of those that are built.
-use Rattle.std.specs.Prelude.{◌≡◌, ◌⊎◌, ℕ, ◌<◌, ◌≤◌, List, length, Ok, Err}
+use Rattle.std.specs.Prelude.{◌≡◌, ◌⊎◌, ℕ, ◌≤◌, List, length, Ok, Err}
 use Rattle.ostore_schema_layout.specs.declared.schema.Schema.{Schema}
 use Rattle.ostore_schema_layout.specs.declared.fault.SchemaFault.{SchemaFault}
 use Rattle.ostore_schema_layout.specs.Parsed.{parsed}
 use Rattle.ostore_job_text.specs.declared.fault.JobFault.{JobFault}
-use Rattle.ostore_job_text.specs.declared.fault.JobFault.TheVariants as faults
 use Rattle.ostore_job_text.specs.declared.job.Job.{Job}
 use Rattle.ostore_try_input.specs.declared.reading.fault.TryFault.{TryFault}
 use Rattle.ostore_try_input.specs.declared.reading.fault.TryFault.TheVariants as answers
 use Rattle.ostore_job_text.specs.Limits.{longest_text}
+use Rattle.ostore_job_text.specs.FaultsOf.{IsTooLong, IsFaultFrom}
 use Rattle.ostore_job_text.specs.ParsedJob.{parsed_from}
 use Rattle.ostore_try_input.specs.Spelling.{AreBuiltTypes, AreBuiltClients, schema_part, job_start}
-
--- the whole text is too long, and this is its fault
-pub record IsTooLong (text : List ℕ) (fault : JobFault) : Type 0 where
-  pub long : longest_text < length text
-  pub told : fault ≡ faults.TooLong longest_text
 
 -- the text isn't too long, and this is the fault of its schema's part
 pub record HasSchemaFault (text : List ℕ) (fault : SchemaFault) : Type 0 where
@@ -33,7 +28,7 @@ pub record HasSchema (text : List ℕ) (schema : Schema) : Type 0 where
 pub record HasJobFault (text : List ℕ) (fault : JobFault) : Type 0 where
   pub schema : Schema
   pub has : HasSchema text schema
-  pub told : parsed_from (job_start text) text ≡ Err fault
+  pub told : IsFaultFrom (job_start text) text fault
 
 -- neither part has a fault, and the schema or the job isn't built
 pub record IsNotBuilt (text : List ℕ) : Type 0 where

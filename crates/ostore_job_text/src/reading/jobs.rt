@@ -1,10 +1,11 @@
 //! Jobs, read from their texts.
 
-ghost use Rattle.std.specs.Prelude.{◌≡◌, ◌⊎◌, ◌+◌, ◌^◌, ◌<◌, ◌≤◌, length, drop, IfOk, IfSome};
+ghost use Rattle.std.specs.Prelude.{◌≡◌, ◌⊎◌, ◌+◌, ◌^◌, ◌<◌, ◌≤◌, length, drop, IfOk, IfErr, IfSome, Err};
 ghost use Rattle.ostore_text_words.specs.Gives.{GivesSame};
 ghost use Rattle.ostore_text_words.specs.Lines.{utf8_fault};
 ghost use Rattle.ostore_job_text.specs.ParsedJob.{IsOkOrMemory, IsOrMemory, drafted, job_drafted, parsed_from, parsed_job};
 ghost use Rattle.ostore_job_text.specs.JobSpelling.{SpellsJob};
+ghost use Rattle.ostore_job_text.specs.FaultsOf.{IsFaultOf, IsFaultOrMemory};
 ghost use Rattle.ostore_job_text.specs.declared.job.Job.{Job};
 
 use super::draft::Draft;
@@ -76,8 +77,8 @@ pub fn read_job_from(alloc: Global, text: &[u8], start: usize) -> Result<Job, Jo
 }
 
 /// Reads a job. Ok comes exactly for the texts of a job, and gives that one; each fault comes exactly where the
-/// text has it. TooLong is judged first, then NotUtf8, then Syntax; of the others the one that stands first is
-/// answered.
+/// text has it. TooLong is judged first, then NotUtf8, then Syntax; of the others the one with the least place is
+/// answered, and at one place the one with the least number.
 pub fn parse_job(alloc: Global, bytes: &[u8]) -> Result<Job, JobFault>
     // What is answered is what the text says, a fault with its place.
     ensures exact { IsOrMemory result (parsed_job bytes.now) }
@@ -85,6 +86,11 @@ pub fn parse_job(alloc: Global, bytes: &[u8]) -> Result<Job, JobFault>
     ensures read { IfOk result (λ job. SpellsJob bytes.now job) }
     // What is spelled in the text is read, and nothing else.
     ensures spelled { (job : Job) → SpellsJob bytes.now job → IsOkOrMemory result job }
+    // A fault that is answered is the text's, before all others that it has.
+    ensures faulty { IfErr result (λ fault. IsFaultOrMemory bytes.now fault) }
+    // The text's fault is answered, and nothing else.
+    ensures told { (fault : JobFault) → IsFaultOf bytes.now fault
+        → (result ≡ Err fault) ⊎ (result ≡ Err JobFault.OutOfMemory) }
 {
     read_job_from(alloc, bytes, 0)
 }

@@ -4,6 +4,7 @@ ghost use Rattle.std.specs.Prelude.{◌≡◌, ◌⊎◌, IfOk, IfErr, Err};
 ghost use Rattle.ostore_try_input.specs.declared.input.TryInput.{TryInput};
 ghost use Rattle.ostore_try_input.specs.Spelling.{Says, schema_part, job_start};
 ghost use Rattle.ostore_try_input.specs.TryFaults.{IsRefusedFor, IsRefusedOrMemory};
+ghost use Rattle.ostore_try_input.specs.inside.ReadFault.{IsReadOrMemory};
 
 use crate::input::TryInput;
 use crate::reading::built::{are_built_clients, are_built_types};
@@ -27,7 +28,7 @@ fn parts_of(text: &[u8]) -> (&[u8], usize)
 /// What the parts of the text are read as.
 fn read_parts(alloc: Global, text: &[u8]) -> Result<TryInput, TryFault>
     ensures read { IfOk result (λ input. Says text.now input) }
-    ensures refused { IfErr result (λ fault. IsRefusedOrMemory text.now fault) }
+    ensures refused { IfErr result (λ fault. IsReadOrMemory text.now fault) }
 {
     if text.len() > LONGEST_TEXT {
         return Err(TryFault::Job(JobFault::TooLong { at: LONGEST_TEXT }));
