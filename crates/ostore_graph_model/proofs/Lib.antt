@@ -57,3 +57,4 @@ pub mod SetFacts
 pub mod JoinedFacts
 pub mod SizeLaw
 pub mod PartnerLaws
+pub mod Meant

@@ -1,6 +1,6 @@
 -- A one-sided set's collection is another: what the graph's pairs have of its side are its items, and its other pairs
 -- stay.
-use Rattle.std.proofs.Common.{◌≡◌, ◌↔◌, ◌⊎◌, ℕ, true, List, refl, sym, ap, subst, ◌∙◌, Some, None, inl, inr}
+use Rattle.std.proofs.Common.{◌≡◌, ◌↔◌, ◌⊎◌, ℕ, true, List, refl, sym, ap, subst, ◌∙◌, Some, inl, inr}
 use Rattle.std.specs.List.{slice_get, Contains}
 use Rattle.ostore_graph_model.specs.Sets as sets
 use Rattle.std.proofs.lemmas.Option.{same_Some, none-some}
@@ -40,7 +40,7 @@ items_lead_on heap segment def head chain linked pointer there = record { entrie
 module _ (schema : Schema) (heap now : Heap) (address member : ℕ) (tag : RowTag) (def : MemberDef) (slots : List Slot) (was is : CollectionHead) (chain after : List ChainLink)
     (change : ChangesCollection schema heap now address member tag def slots was is chain after)
     (chains : (other : ℕ) → KeepsChains schema heap other) (pointers : (other : ℕ) → KeepsPointers schema heap other) (items : (other : ℕ) → KeepsItems heap other)
-    (own : AreNamesOwn heap) (target : TypeNo) (kind : def.kind ≡ kinds.Set target) (alone : def.inverse ≡ None) where
+    (own : AreNamesOwn heap) (target : TypeNo) (kind : def.kind ≡ kinds.Set target) (first : comes_first (type_member tag member) def.inverse ≡ true) where
   -- what was joined with the object at the set
   joined_was : (x y : Name) → x ≡ name_in tag → Joins schema heap (type_member tag member) x y → (pointer : ℕ) × Contains (entry_items (entries_of chain)) pointer × (name_at heap pointer ≡ Some y)
   joined_was x y same j =
@@ -86,7 +86,7 @@ module _ (schema : Schema) (heap now : Heap) (address member : ℕ) (tag : RowTa
     def = def;
     defined = change.defined;
     sided = λ none. none-some target (sym none ∙ ap link_target kind);
-    first = ap (comes_first (type_member tag member)) alone;
+    first = first;
   }
 
   -- An item of the set now, by its name.
@@ -121,10 +121,10 @@ module _ (schema : Schema) (heap now : Heap) (address member : ℕ) (tag : RowTa
 
   -- the pairs from the set before
   pub was_paired : (pairs : sets.FinSet pair_cmp) → ShowsPairs schema heap pairs → (pair : Pair) → pair.link ≡ type_member tag member → pair.first ≡ name_in tag → (sets.contains pairs pair ≡ true) ↔ WasItem pair.second
-  was_paired pairs shown pair link first = (
-    λ e. joined_was pair.first pair.second first (subst (λ l. Joins schema heap l pair.first pair.second) link ((shown pair).0 e).joins),
+  was_paired pairs shown pair link starts = (
+    λ e. joined_was pair.first pair.second starts (subst (λ l. Joins schema heap l pair.first pair.second) link ((shown pair).0 e).joins),
     λ w. (shown pair).1 (record {
       link = subst (IsLink schema) (sym link) set_link;
-      joins = subst (λ l. Joins schema heap l pair.first pair.second) (sym link) (subst (λ x. Joins schema heap (type_member tag member) x pair.second) (sym first) (join_was pair.second w.0 w.1 w.2));
+      joins = subst (λ l. Joins schema heap l pair.first pair.second) (sym link) (subst (λ x. Joins schema heap (type_member tag member) x pair.second) (sym starts) (join_was pair.second w.0 w.1 w.2));
     }),
   )

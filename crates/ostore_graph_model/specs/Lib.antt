@@ -17,6 +17,7 @@ pub mod LawsOfHistories
 pub mod Growth
 pub mod Examples
 pub mod FullGraphs
+pub mod RefusalOrders
 -- What a list of pages says: cells, values, what leads on, and who owns it.
 pub mod Limits
 pub mod Addresses
@@ -42,3 +43,4 @@ pub mod CollectionEdits
 pub mod LawsOfLinks
 pub mod LawsOfIndexes
 pub mod LawsOfFreshPages
+pub mod LawsOfGraphs

@@ -3,6 +3,7 @@
 ghost use Rattle.ostore_graph_model.specs.Examples.{DisplacedPartners, DeletedItem, DanglingReference, SetItems};
 ghost use Rattle.ostore_graph_model.specs.Examples.{ListsAndDictionaries, ReadingOnly, OrderOfRefusals, PathQueries};
 ghost use Rattle.ostore_graph_model.specs.FullGraphs.{SerialsEnd, RootsEnd, IndexesWantInverses, LaterRead};
+ghost use Rattle.ostore_graph_model.specs.RefusalOrders.{CollectionRefusals, PartnersOfBoth};
 
 /// A reference that is set parts both objects from whom they were joined with.
 pub fn displaced_partners()
@@ -62,4 +63,14 @@ pub fn roots_end()
 /// An index wants inverses: of the set, and of each reference on its path.
 pub fn indexes_want_inverses()
     ensures { IndexesWantInverses }
+{}
+
+/// Of a list and of a dictionary the test that comes first refuses, and a deleted item counts.
+pub fn collection_refusals()
+    ensures { CollectionRefusals }
+{}
+
+/// A reference that is set where both objects have partners parts them from both.
+pub fn partners_of_both()
+    ensures { PartnersOfBoth }
 {}
