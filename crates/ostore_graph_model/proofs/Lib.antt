@@ -58,3 +58,4 @@ pub mod JoinedFacts
 pub mod SizeLaw
 pub mod PartnerLaws
 pub mod Meant
+pub mod BothSides

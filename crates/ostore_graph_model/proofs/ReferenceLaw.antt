@@ -94,7 +94,7 @@ module _ (schema : Schema) (old new : List PageImage) (address member : ℕ) (ce
   def_kind : write.def.kind ≡ kinds.Ref target
   def_kind = sym (place_kind 0 (members_of schema cell.code) member place write.def write.has.lies write.defined) ∙ write.kind
 
-  change : ChangesReference schema (heap_of schema old) (heap_of schema new) address member (tag_of cell) (slots_in schema cell) write.def pointer
+  pub change : ChangesReference schema (heap_of schema old) (heap_of schema new) address member (tag_of cell) (slots_in schema cell) write.def pointer
   change = record {
     was = object_here schema old address member cell place write.has sized;
     is = links_now schema old new address member cell place bytes edit

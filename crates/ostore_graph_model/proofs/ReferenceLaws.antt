@@ -1,5 +1,5 @@
 -- A one-sided reference of one object of a heap is another.
-use Rattle.std.proofs.Common.{◌≡◌, ◌≢◌, ◌⊎◌, ℕ, ◌&&◌, ◌||◌, not, Bool, true, false, List, set, refl, sym, ap, ap₂, subst, ◌∙◌, Option, Some, None, inl, inr, true≢false}
+use Rattle.std.proofs.Common.{◌≡◌, ◌≢◌, ◌↔◌, ◌⊎◌, ℕ, ◌&&◌, ◌||◌, not, Bool, true, false, List, set, refl, sym, ap, ap₂, subst, ◌∙◌, Option, Some, None, inl, inr, true≢false}
 use Rattle.std.specs.List.{slice_get}
 use Rattle.std.specs.Option.{option_map}
 use Rattle.std.specs.Ordering.{eq_by_cmp}
@@ -274,6 +274,66 @@ module _ (schema : Schema) (heap now : Heap) (address member : ℕ) (tag : RowTa
               λ e. apart (named_object heap address j.address tag j.tag slots was.slots own change.was was.object (j.from ∙ (from_parts (name_in tag) pair e).1)),
               record { link = has.link; joins = joined_with pair.link pair.first pair.second j was },
             )
+      ]
+
+  -- what is joined at a side now: the object at the reference's side with what it leads to, or what was joined
+  pub joins_edited : AreNamesOwn heap → (link : TypeMember) (x z : Name) → Joins schema now link x z
+      ↔ (((link ≡ record { ty = record { 0 = tag.code }; member = record { 0 = member } }) × (x ≡ name_in tag) × (pointer ≢ 0) × (name_at heap pointer ≡ Some z))
+      ⊎ ((link ≡ record { ty = record { 0 = tag.code }; member = record { 0 = member } } → x ≢ name_in tag) × Joins schema heap link x z))
+  joins_edited own link x z = (λ j. forth j, λ h. elim h [ inl here ↦ back_here here.0 here.1 here.2 here.3 | inr was ↦ back_was was.0 was.1 ])
+    where
+      forth : Joins schema now link x z
+          → ((link ≡ record { ty = record { 0 = tag.code }; member = record { 0 = member } }) × (x ≡ name_in tag) × (pointer ≢ 0) × (name_at heap pointer ≡ Some z))
+          ⊎ ((link ≡ record { ty = record { 0 = tag.code }; member = record { 0 = member } } → x ≢ name_in tag) × Joins schema heap link x z)
+      forth j = elim (cases_eq j.address address) [
+        | inl same ↦ elim (member_now link.member.0 j.tag j.def j.slot (subst (λ a. HasMember schema now a link.member.0 j.tag j.def j.slot) same j.has)) [
+          | inl here ↦
+              let tags = same_object now j.address address j.tag tag j.has.slots (set slots member (Slot.Refers pointer)) same j.has.object stands_now in
+              let leads : (pointer ≡ j.pointer) × (j.pointer ≢ 0) = subst (λ s. LeadsTo now j.tag.segment j.def.kind s j.pointer) here.2 j.leads in
+              inl (
+                ap₂ (λ (t n : ℕ). record { ty = record { 0 = t }; member = record { 0 = n } }) (sym j.ty ∙ ap (λ (t : RowTag). t.code) tags) here.0,
+                sym j.from ∙ ap name_in tags,
+                (λ none. leads.1 (sym leads.0 ∙ none)),
+                sym (names_by_tags heap now tags_stay pointer) ∙ ap (name_at now) leads.0 ∙ j.to,
+              )
+          | inr was ↦ inr (
+            λ e. absurd (was.0 (ap (λ (s : TypeMember). s.member.0) e)),
+            joined_with link x z j (subst (λ a. HasMember schema heap a link.member.0 j.tag j.def j.slot) (sym same) was.1),
+          )
+        ]
+        | inr apart ↦
+            let was = member_elsewhere schema now heap j.address link.member.0 j.tag j.def j.slot (sym (change.others j.address apart)) j.has in
+            inr (
+              λ e first. apart (named_object heap address j.address tag j.tag slots was.slots own change.was was.object (j.from ∙ first)),
+              joined_with link x z j was,
+            )
+      ]
+
+      back_here : link ≡ record { ty = record { 0 = tag.code }; member = record { 0 = member } } → x ≡ name_in tag → pointer ≢ 0 → name_at heap pointer ≡ Some z → Joins schema now link x z
+      back_here at first some named =
+          subst (λ l. Joins schema now l x z) (sym at) (subst (λ y. Joins schema now (record { ty = record { 0 = tag.code }; member = record { 0 = member } }) y z) (sym first) (record {
+            address = address;
+            tag = tag;
+            def = def;
+            slot = Slot.Refers pointer;
+            has = record { slots = set slots member (Slot.Refers pointer); object = stands_now; defined = change.defined; held = slot_now };
+            ty = refl;
+            from = refl;
+            pointer = pointer;
+            leads = (refl, some);
+            to = names_by_tags heap now tags_stay pointer ∙ named;
+          }))
+
+      back_was : (link ≡ record { ty = record { 0 = tag.code }; member = record { 0 = member } } → x ≢ name_in tag) → Joins schema heap link x z → Joins schema now link x z
+      back_was free j = elim (cases_eq j.address address) [
+        | inl same ↦ elim (member_was link.member.0 j.tag j.def j.slot (subst (λ a. HasMember schema heap a link.member.0 j.tag j.def j.slot) same j.has)) [
+          | inl here ↦
+              let tags = same_object heap j.address address j.tag tag j.has.slots slots same j.has.object change.was in
+              let at : link ≡ record { ty = record { 0 = tag.code }; member = record { 0 = member } } = ap₂ (λ (t n : ℕ). record { ty = record { 0 = t }; member = record { 0 = n } }) (sym j.ty ∙ ap (λ (t : RowTag). t.code) tags) here.0 in
+              absurd (free at (sym j.from ∙ ap name_in tags))
+          | inr stays ↦ joins_with link x z j (subst (λ a. HasMember schema now a link.member.0 j.tag j.def j.slot) (sym same) stays)
+        ]
+        | inr apart ↦ joins_with link x z j (member_elsewhere schema heap now j.address link.member.0 j.tag j.def j.slot (change.others j.address apart) j.has)
       ]
 
   -- at the second side of its link it shows no pair of its own

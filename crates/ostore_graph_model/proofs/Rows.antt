@@ -1,4 +1,4 @@
--- Each transaction of specs/Examples.antt, specs/FullGraphs.antt and specs/RefusalOrders.antt, command by command.
+-- Each transaction of specs/Examples.antt, FullGraphs.antt, RefusalOrders.antt and FullSets.antt, command by command.
 pub mod DisplacedPartners
 pub mod DeletedItem
 pub mod SetItems
@@ -12,3 +12,5 @@ pub mod RootsEnd
 pub mod IndexesWantInverses
 pub mod CollectionRefusals
 pub mod PartnersOfBoth
+pub mod FullSet
+pub mod FilledSet

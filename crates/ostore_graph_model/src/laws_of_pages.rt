@@ -10,6 +10,7 @@ ghost use Rattle.ostore_graph_model.specs.LawsOfMeaning.{LawOfBoundRoots, LawOfU
 ghost use Rattle.ostore_graph_model.specs.LawsOfFreshPages.{LawOfFreshPages};
 ghost use Rattle.ostore_graph_model.specs.LawsOfGraphs.{AreBytes, LawOfGraphsOfSchema};
 ghost use Rattle.ostore_graph_model.specs.LawsOfLinks.{LawOfFirstSides, LawOfSides};
+ghost use Rattle.ostore_graph_model.specs.LawsOfBothSides.{LawOfReferenceSides, LawOfSetSides, LawOfGoodLinks, LawOfJoining};
 ghost use Rattle.ostore_graph_model.specs.LawsOfIndexes.{LawOfIndexOrder};
 
 use ostore_base::PageImage;
@@ -130,6 +131,30 @@ pub fn link_goes_by_first_side()
 /// Where the links are good, each side of a link, the second one too, shows exactly the graph's pairs.
 pub fn each_side_shows_pairs()
     ensures { LawOfSides }
+{}
+
+/// After a reference is written, at either side of its link, each member of each object shows what it showed, but for
+/// the reference's own, which shows what it leads to.
+pub fn reference_is_shown()
+    ensures { LawOfReferenceSides }
+{}
+
+/// After a set is changed, at either side of its link, each member of each object shows what it showed, but for the
+/// set's own, which shows its items.
+pub fn items_are_shown()
+    ensures { LawOfSetSides }
+{}
+
+/// Where each member with an inverse shows exactly the graph's pairs, the links are good: rule 11 holds. So a command
+/// that edits both sides of a link gives it back at its end.
+pub fn links_are_good()
+    ensures { LawOfGoodLinks }
+{}
+
+/// To join two objects by a two-sided link is to free the one at its side, where that is a reference, then the other at
+/// its own, and to add the pair.
+pub fn joining_goes_by_sides()
+    ensures { LawOfJoining }
 {}
 
 /// An index of ints has its entries by ascending int.

@@ -33,8 +33,9 @@ pub use laws_of_histories::{
 pub use laws_of_pages::{
     each_side_shows_pairs, first_side_is_cleared, first_side_is_written, fresh_pages_are_empty,
     graph_is_of_schema, graph_is_one, graph_is_there, images_have_bytes, index_ascends,
-    int_is_written, link_goes_by_first_side, no_index_is_wrong, object_is_made, page_is_taken,
-    reference_is_cleared, reference_is_written, root_is_bound, root_is_unbound, same_is_read,
+    int_is_written, items_are_shown, joining_goes_by_sides, link_goes_by_first_side,
+    links_are_good, no_index_is_wrong, object_is_made, page_is_taken, reference_is_cleared,
+    reference_is_shown, reference_is_written, root_is_bound, root_is_unbound, same_is_read,
     second_side_is_written, text_is_written,
 };
 pub use laws_of_steps::{
@@ -46,7 +47,7 @@ pub use laws_of_steps::{
 pub use refusal::Refusal;
 pub use values::{Listed, Name, Names, Replies, Reply, Scalar, Value};
 pub use worked::{
-    collection_refusals, dangling_reference, deleted_item, displaced_partners,
-    indexes_want_inverses, later_read, lists_and_dictionaries, order_of_refusals, partners_of_both,
-    path_queries, reading_only, roots_end, serials_end, set_items,
+    collection_refusals, dangling_reference, deleted_item, displaced_partners, filled_set,
+    full_set, indexes_want_inverses, later_read, lists_and_dictionaries, order_of_refusals,
+    partners_of_both, path_queries, reading_only, roots_end, serials_end, set_items,
 };

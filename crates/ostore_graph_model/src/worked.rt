@@ -4,6 +4,7 @@ ghost use Rattle.ostore_graph_model.specs.Examples.{DisplacedPartners, DeletedIt
 ghost use Rattle.ostore_graph_model.specs.Examples.{ListsAndDictionaries, ReadingOnly, OrderOfRefusals, PathQueries};
 ghost use Rattle.ostore_graph_model.specs.FullGraphs.{SerialsEnd, RootsEnd, IndexesWantInverses, LaterRead};
 ghost use Rattle.ostore_graph_model.specs.RefusalOrders.{CollectionRefusals, PartnersOfBoth};
+ghost use Rattle.ostore_graph_model.specs.FullSets.{FilledSet, FullSet};
 
 /// A reference that is set parts both objects from whom they were joined with.
 pub fn displaced_partners()
@@ -73,4 +74,14 @@ pub fn collection_refusals()
 /// A reference that is set where both objects have partners parts them from both.
 pub fn partners_of_both()
     ensures { PartnersOfBoth }
+{}
+
+/// Items are put into a set one by one, up to 31, and all are counted.
+pub fn filled_set()
+    ensures { FilledSet }
+{}
+
+/// Of a set of 31 items all are counted, and they are taken out one by one until none is left.
+pub fn full_set()
+    ensures { FullSet }
 {}

@@ -38,7 +38,7 @@ use Rattle.ostore_graph_model.proofs.Meant.Values.{stands_in}
 use Rattle.ostore_graph_model.proofs.Meant.Collections.{member_kind}
 
 -- a side of a link is no int and no text
-side_leads : (kind : MemberKind) → link_target kind ≢ None → is_scalar kind ≡ false
+pub side_leads : (kind : MemberKind) → link_target kind ≢ None → is_scalar kind ≡ false
 side_leads kinds.Int some = absurd (some refl)
 side_leads (kinds.Text max) some = absurd (some refl)
 side_leads (kinds.Ref target) some = refl
