@@ -82,10 +82,15 @@ module _ (schema : Schema) (heap now : Heap) (address : ℕ) (tag : RowTag) (slo
     after = code_now;
     object = λ links e. (slots, sym (same_Some _ _ (sym (ap (option_map (λ (c : HeapCell). c.links)) adds.stands.there) ∙ e)));
     codes = added_codes;
+    inverse = None;
     members = λ m also def slot has. inr (inl (member_empty m also def slot has));
     kept = λ m also def slot has. absurd (member_was_not m also def slot has);
     pointers = λ m also def slot has. empty_good def.kind slot (member_empty m also def slot has);
   }
+
+  pub added_alone : added_changes.inverse ≡ None
+  unfolding added_changes
+  added_alone = refl
 
   -- ---- serials
 

@@ -1,8 +1,6 @@
 -- The rules on pages, where some of them change.
-use Rattle.std.proofs.Common.{◌≡◌, ◌≢◌, ℕ, suc, ◌<◌, ◌≤◌, ◌⊎◌, List, [], ◌∷◌, length, refl, sym, subst, ◌∙◌, arith, inl, inr}
-use Rattle.std.specs.List.{Contains}
+use Rattle.std.proofs.Common.{◌≡◌, ◌≢◌, ℕ, ◌<◌, ◌≤◌, ◌⊎◌, List, [], length, refl, sym, subst, arith, inl, inr}
 use Rattle.ostore_base.specs.declared.page.PageImage.{PageImage}
-use Rattle.ostore_page_tags.specs.declared.page_header.PageHeader.{PageHeader}
 use Rattle.ostore_page_tags.specs.Header.{header_of}
 use Rattle.ostore_page_tags.specs.Cells.{cells_of}
 use Rattle.ostore_page_tags.specs.Rules.{IsPage}
@@ -10,7 +8,7 @@ use Rattle.ostore_page_tags.proofs.parts.CellLaws.{cells_are}
 use Rattle.ostore_page_tags.proofs.shape.PageShape.{IsPage-shape, end_in}
 use Rattle.ostore_page_tags.proofs.allocation.ChainLaws.{IsOwned, chain_first}
 use Rattle.ostore_page_tags.specs.PageLists.{bytes_at, header_at, first_of, schema_bytes}
-use Rattle.ostore_page_tags.specs.PageChains.{IsWalk, IsSegment, IsOpen, IsNoFirst, IsFreeList, IsChain, AreChained}
+use Rattle.ostore_page_tags.specs.PageChains.{IsSegment, IsOpen, AreChained}
 use Rattle.ostore_page_tags.specs.Allocated.{IsAllocated, IsFront, IsFreePage, IsRoots, EndsInZeros}
 
 -- ---- lists of pages

@@ -12,7 +12,6 @@ use Rattle.ostore_schema_layout.specs.declared.schema.Schema.{Schema}
 use Rattle.ostore_schema_layout.specs.declared.schema.MemberDef.{MemberDef}
 use Rattle.ostore_base.specs.declared.cell_codes.TheConstants.{INDEX_DESCRIPTOR}
 use Rattle.ostore_schema_layout.specs.Numbers.{members_of}
-use Rattle.ostore_schema_layout.specs.Lawful.{link_target}
 use Rattle.ostore_graph_model.specs.declared.values.Name.{Name}
 use Rattle.ostore_graph_model.specs.declared.commands.Key.{Key}
 use Rattle.ostore_graph_model.specs.Orders.{TypeMember, ObjectMember, object_member_cmp, key_cmp, pair_cmp, text_cmp, index_cmp, name_cmp}
@@ -25,7 +24,8 @@ use Rattle.ostore_graph_model.specs.HeapRules.{IsGoodRoot, KeepsRoots, KeepsPoin
 use Rattle.ostore_graph_model.specs.Owners.{Owner, chain_head, OwnsIndexes}
 use Rattle.ostore_graph_model.specs.Chunks.{ChunkEntry}
 use Rattle.ostore_graph_model.specs.Records.{CollectionHead, Slot, Links, RowTag, HeapCell}
-use Rattle.ostore_graph_model.specs.StandsFor.{HasObject, Joins, HasPair, HasCollection, HasList, Binds, HasDictionary, HasIndex, ShowsObjects, ShowsPairs, ShowsLists, ShowsDictionaries, ShowsIndexes, ShowsRoots}
+use Rattle.ostore_graph_model.specs.Links.{IsLink}
+use Rattle.ostore_graph_model.specs.StandsFor.{HasObject, Joins, HasCollection, HasList, Binds, HasDictionary, HasIndex, ShowsObjects, ShowsPairs, ShowsLists, ShowsDictionaries, ShowsIndexes, ShowsRoots}
 use Rattle.ostore_graph_model.proofs.OrderLaws.{object_member_cmp-IsTotalOrder, object_member_cmp-IsAntisymmetric, tied_same, same_tied}
 use Rattle.ostore_graph_model.proofs.ObjectLaws.{Values, AreNamesOwn, named_object, same_object}
 use Rattle.ostore_graph_model.proofs.ChainLaws.{chain_unique}
@@ -354,29 +354,16 @@ module _ (schema : Schema) (heap now : Heap) (address member : ℕ) (tag : RowTa
   ]
 
   -- where no link goes by the collection, the pairs stay
-  pub pairs_stay : link_target def.kind ≡ None → (pairs : sets.FinSet pair_cmp) → ShowsPairs schema heap pairs → ShowsPairs schema now pairs
+  pub pairs_stay : (IsLink schema (record { ty = record { 0 = tag.code }; member = record { 0 = member } }) → ⊥) → (pairs : sets.FinSet pair_cmp) → ShowsPairs schema heap pairs → ShowsPairs schema now pairs
   pairs_stay no_link pairs shown pair = (
     λ e.
         let h = (shown pair).0 e in
-        record { link = h.link; joins = joins_forth pair.link pair.first pair.second (λ same first. not_here same h) h.joins },
+        record { link = h.link; joins = joins_forth pair.link pair.first pair.second (λ same first. no_link (subst (IsLink schema) same h.link)) h.joins },
     λ h. (shown pair).1 (record {
       link = h.link;
-      joins = elim (joins_back pair.link pair.first pair.second h.joins) [ inl this ↦ absurd (not_there this.0 h) | inr old ↦ old.1 ];
+      joins = elim (joins_back pair.link pair.first pair.second h.joins) [ inl this ↦ absurd (no_link (subst (IsLink schema) this.0 h.link)) | inr old ↦ old.1 ];
     }),
   )
-    where
-      no_target : (d : MemberDef) → d ≡ def → link_target d.kind ≡ None
-      no_target d same = ap (λ (x : MemberDef). link_target x.kind) same ∙ no_link
-
-      not_here : pair.link ≡ side → HasPair schema heap pair → ⊥
-      not_here same h =
-          let defined = ap (λ (s : TypeMember). slice_get (members_of schema s.ty.0) s.member.0) (sym same) ∙ h.link.defined in
-          h.link.sided (no_target h.link.def (same_Some _ _ (sym defined ∙ change.defined)))
-
-      not_there : pair.link ≡ side → HasPair schema now pair → ⊥
-      not_there same h =
-          let defined = ap (λ (s : TypeMember). slice_get (members_of schema s.ty.0) s.member.0) (sym same) ∙ h.link.defined in
-          h.link.sided (no_target h.link.def (same_Some _ _ (sym defined ∙ change.defined)))
 
   -- ---- links
 

@@ -15,6 +15,7 @@ use Rattle.ostore_page_tags.specs.Rules.{is_type_code}
 use Rattle.ostore_schema_layout.specs.declared.schema.Schema.{Schema}
 use Rattle.ostore_schema_layout.specs.declared.schema.TypeNo.{TypeNo}
 use Rattle.ostore_schema_layout.specs.declared.schema.MemberDef.{MemberDef}
+use Rattle.ostore_schema_layout.specs.declared.schema.Inverse.{Inverse}
 use Rattle.ostore_schema_layout.specs.declared.schema.MemberKind.{MemberKind}
 use Rattle.ostore_schema_layout.specs.declared.schema.MemberKind.TheVariants as kinds
 use Rattle.ostore_schema_layout.specs.Cells.{ArePairwise}
@@ -24,7 +25,7 @@ use Rattle.ostore_graph_model.specs.declared.commands.Key.{Key}
 use Rattle.ostore_graph_model.specs.Orders.{ObjectMember, Pair, pair_cmp, object_member_cmp, key_cmp, type_member_cmp, name_cmp}
 use Rattle.ostore_graph_model.specs.Graph.{Graph, Dictionary, list_at, dictionary_at}
 use Rattle.ostore_graph_model.specs.Kinds.{is_ref}
-use Rattle.ostore_graph_model.specs.Links.{pair_at}
+use Rattle.ostore_graph_model.specs.Links.{comes_first, pair_at, IsLink}
 use Rattle.ostore_graph_model.specs.Deeds.{LiveMember}
 use Rattle.ostore_graph_model.specs.Deeds.Collections.{items_of, with_items, bindings_of, with_bindings}
 use Rattle.ostore_graph_model.specs.Deeds.References.{with_joined}
@@ -39,11 +40,11 @@ use Rattle.ostore_graph_model.specs.Chains.{chunk_code, IsIn, entries_of, item_t
 use Rattle.ostore_graph_model.specs.CellRules.{is_written}
 use Rattle.ostore_graph_model.specs.HeapRules.{KeepsRoots, KeepsSerials}
 use Rattle.ostore_graph_model.specs.StandsFor.{HasCollection, Binds, ShowsPairs, ShowsLists, ShowsDictionaries, ShowsRoots, ShowsSerials}
-use Rattle.ostore_graph_model.specs.Valid.{HasGoodCells}
+use Rattle.ostore_graph_model.specs.Valid.{HasGoodCells, HasGoodLinks}
 use Rattle.ostore_graph_model.specs.PageEdits.{name_of}
 use Rattle.ostore_graph_model.specs.Collections.{KeepsHeap}
 use Rattle.ostore_graph_model.specs.LawsOfMeaning.{HoldGraph, LeavesGraph}
-use Rattle.ostore_graph_model.specs.CollectionEdits.{WritesCollection, object_member, type_member, entry_items, Pairs, LawOfAppends, LawOfPuts, LawOfBinds, LawOfUnbinds, LawOfInserts, LawOfRemoves}
+use Rattle.ostore_graph_model.specs.CollectionEdits.{WritesCollection, object_member, type_member, entry_items, Pairs, LawOfAppends, LawOfPuts, LawOfBinds, LawOfUnbinds, LawOfInserts, LawOfRemoves, LawOfFirstSideInserts, LawOfFirstSideRemoves, LawOfSecondSides}
 use Rattle.ostore_graph_model.proofs.KeyLaws.{key_cmp-IsTotalOrder, key_cmp-IsAntisymmetric}
 use Rattle.ostore_graph_model.proofs.OrderLaws.{type_member_cmp-IsTotalOrder, type_member_cmp-IsAntisymmetric, name_cmp-IsTotalOrder, name_cmp-IsAntisymmetric, pair_cmp-IsTotalOrder, pair_cmp-IsAntisymmetric, tied_same, same_tied, apart_tied}
 use Rattle.ostore_graph_model.proofs.ObjectLaws.{AreNamesOwn, names_own}
@@ -55,6 +56,7 @@ use Rattle.ostore_graph_model.proofs.GraphExists.{names_of, nil_or_not, dictiona
 use Rattle.ostore_graph_model.proofs.GraphLaws.{addresses_bounded}
 use Rattle.ostore_graph_model.proofs.CollectionLaws.{has, collection_law}
 use Rattle.ostore_graph_model.proofs.CollectionFrames.{had, rows_had, collection_was, collection_had, named_stays, names_stay, lists_stay, dictionaries_stay, pairs_stay, links_stay, objects_stay, roots_stay, indexes_stay}
+use Rattle.ostore_graph_model.proofs.SideLaws.{two_sided}
 use Rattle.ostore_graph_model.proofs.ListLaws.{list_put}
 use Rattle.ostore_graph_model.proofs.DictionaryLaws.{dictionary_gone, dictionary_put}
 use Rattle.ostore_graph_model.proofs.SetLaws.{pairs_changed, was_paired}
@@ -183,28 +185,50 @@ module _ (schema : Schema) (old new : List PageImage) (address member : ℕ) (ta
     | inr apart ↦ ap (option_map (values_in schema)) (write.cells other apart outside)
   ]
 
-  pub leaves : (lists : maps.FinMap object_member_cmp (List Name)) (dictionaries : maps.FinMap object_member_cmp (maps.FinMap key_cmp Name)) (pairs : sets.FinSet pair_cmp)
+  holds_now : (lists : maps.FinMap object_member_cmp (List Name)) (dictionaries : maps.FinMap object_member_cmp (maps.FinMap key_cmp Name)) (pairs : sets.FinSet pair_cmp)
       → ShowsLists schema (heap_of schema new) lists → ShowsDictionaries schema (heap_of schema new) dictionaries → ShowsPairs schema (heap_of schema new) pairs
-      → LeavesGraph schema old new (record graph { pairs = pairs; lists = lists; dictionaries = dictionaries })
-  leaves lists dictionaries pairs lists_shown dictionaries_shown pairs_shown =
+      → HoldGraph schema new (record graph { pairs = pairs; lists = lists; dictionaries = dictionaries })
+  holds_now lists dictionaries pairs lists_shown dictionaries_shown pairs_shown =
       let cells = holds.cells_kept in
       let stands = holds.stands in
       record {
-        holds = record {
-          pages_kept = write.pages;
-          cells_kept = good_cells;
-          stands = record {
-            objects = objects_stay schema (heap_of schema old) (heap_of schema new) address member tag def write.slots write.was write.is write.chain write.links write.changes holds.cells_kept.chains holds.cells_kept.pointers holds.cells_kept.items own (values_of schema old) (values_of schema new) same_values graph.objects stands.objects;
-            pairs = pairs_shown;
-            lists = lists_shown;
-            dictionaries = dictionaries_shown;
-            roots = subst (λ rows. ShowsRoots (heap_of schema new) rows graph.roots) (sym write.roots) (roots_stay schema (heap_of schema old) (heap_of schema new) address member tag def write.slots write.was write.is write.chain write.links write.changes holds.cells_kept.chains holds.cells_kept.pointers holds.cells_kept.items own (roots_of old) graph.roots cells.roots stands.roots);
-            serials = subst (λ counters. ShowsSerials counters graph.serials) (sym write.serials) stands.serials;
-            indexes = indexes_stay schema (heap_of schema old) (heap_of schema new) address member tag def write.slots write.was write.is write.chain write.links write.changes holds.cells_kept.chains holds.cells_kept.pointers holds.cells_kept.items own graph.indexes stands.indexes;
-          };
+        pages_kept = write.pages;
+        cells_kept = good_cells;
+        stands = record {
+          objects = objects_stay schema (heap_of schema old) (heap_of schema new) address member tag def write.slots write.was write.is write.chain write.links write.changes holds.cells_kept.chains holds.cells_kept.pointers holds.cells_kept.items own (values_of schema old) (values_of schema new) same_values graph.objects stands.objects;
+          pairs = pairs_shown;
+          lists = lists_shown;
+          dictionaries = dictionaries_shown;
+          roots = subst (λ rows. ShowsRoots (heap_of schema new) rows graph.roots) (sym write.roots) (roots_stay schema (heap_of schema old) (heap_of schema new) address member tag def write.slots write.was write.is write.chain write.links write.changes holds.cells_kept.chains holds.cells_kept.pointers holds.cells_kept.items own (roots_of old) graph.roots cells.roots stands.roots);
+          serials = subst (λ counters. ShowsSerials counters graph.serials) (sym write.serials) stands.serials;
+          indexes = indexes_stay schema (heap_of schema old) (heap_of schema new) address member tag def write.slots write.was write.is write.chain write.links write.changes holds.cells_kept.chains holds.cells_kept.pointers holds.cells_kept.items own graph.indexes stands.indexes;
         };
-        links_kept = links_stay schema (heap_of schema old) (heap_of schema new) address member tag def write.slots write.was write.is write.chain write.links write.changes holds.cells_kept.chains holds.cells_kept.pointers holds.cells_kept.items own write.alone;
       }
+
+  -- where the member is no side of a two-sided link, the links are as good as they were
+  links_left : def.inverse ≡ None → HasGoodLinks schema old → HasGoodLinks schema new
+  links_left alone = links_stay schema (heap_of schema old) (heap_of schema new) address member tag def write.slots write.was write.is write.chain write.links write.changes holds.cells_kept.chains holds.cells_kept.pointers holds.cells_kept.items own alone
+
+  -- a list and a dictionary are no side of a link
+  unlinked : link_target def.kind ≡ None → def.inverse ≡ None
+  unlinked none = by def.inverse refl
+    where
+      by : (found : Option Inverse) → def.inverse ≡ found → def.inverse ≡ None
+      by None e = e
+      by (Some inverse) e =
+          let two = two_sided schema holds.pages_kept.spelled.lawful (record { 0 = tag.code }) (record { 0 = member }) def inverse write.changes.defined e in
+          absurd (none-some inverse.ty (sym none ∙ two.leads))
+
+  no_link : link_target def.kind ≡ None → IsLink schema (type_member tag member) → ⊥
+  no_link none link = link.sided (ap (λ (d : MemberDef). link_target d.kind) (same_Some link.def def (sym link.defined ∙ write.changes.defined)) ∙ none)
+
+  leaves : link_target def.kind ≡ None → (lists : maps.FinMap object_member_cmp (List Name)) (dictionaries : maps.FinMap object_member_cmp (maps.FinMap key_cmp Name))
+      → ShowsLists schema (heap_of schema new) lists → ShowsDictionaries schema (heap_of schema new) dictionaries
+      → LeavesGraph schema old new (record graph { lists = lists; dictionaries = dictionaries })
+  leaves none lists dictionaries lists_shown dictionaries_shown = record {
+    holds = holds_now lists dictionaries graph.pairs lists_shown dictionaries_shown (pairs_stay schema (heap_of schema old) (heap_of schema new) address member tag def write.slots write.was write.is write.chain write.links write.changes holds.cells_kept.chains holds.cells_kept.pointers holds.cells_kept.items own (no_link none) graph.pairs holds.stands.pairs);
+    links_kept = links_left (unlinked none);
+  }
 
   -- an item that the collection gets is a row that was there
   pub item_named : (pointer : ℕ) (to : PlacedCell) → cell_at old pointer ≡ Some to → (name_at (heap_of schema old) pointer ≡ Some (name_of to)) × (name_at (heap_of schema new) pointer ≡ Some (name_of to))
@@ -222,6 +246,24 @@ module _ (schema : Schema) (old new : List PageImage) (address member : ℕ) (ta
   old_item pointer there =
       each_item (λ item. name_at (heap_of schema new) item ≡ name_at (heap_of schema old) item) (entries_of write.chain) old_names pointer
       (subst (λ es. Contains (entry_items es) pointer) (sym write.before_is) there)
+
+  -- a set at the second side of its link shows no pair of its own
+  second_holds : chunk_code def.kind ≡ 240 → comes_first (type_member tag member) def.inverse ≡ false → HoldGraph schema new graph
+  second_holds code second =
+      let stands = holds.stands in
+      holds_now graph.lists graph.dictionaries graph.pairs
+      (lists_stay schema (heap_of schema old) (heap_of schema new) address member tag def write.slots write.was write.is write.chain write.links write.changes holds.cells_kept.chains holds.cells_kept.pointers holds.cells_kept.items own (λ list. omega (arith, list, code)) graph.lists stands.lists)
+      (dictionaries_stay schema (heap_of schema old) (heap_of schema new) address member tag def write.slots write.was write.is write.chain write.links write.changes holds.cells_kept.chains holds.cells_kept.pointers holds.cells_kept.items own (λ keyed. no_dictionary keyed) graph.dictionaries stands.dictionaries)
+      (pairs_stay schema (heap_of schema old) (heap_of schema new) address member tag def write.slots write.was write.is write.chain write.links write.changes holds.cells_kept.chains holds.cells_kept.pointers holds.cells_kept.items own not_first graph.pairs stands.pairs)
+    where
+      no_dictionary : (chunk_code def.kind ≡ 242) ⊎ (chunk_code def.kind ≡ 243) → ⊥
+      no_dictionary (inl first) = omega (arith, first, code)
+      no_dictionary (inr other) = omega (arith, other, code)
+
+      not_first : IsLink schema (type_member tag member) → ⊥
+      not_first link =
+          let same : link.def ≡ def = same_Some link.def def (sym link.defined ∙ write.changes.defined) in
+          true≢false (sym link.first ∙ ap (λ (d : MemberDef). comes_first (type_member tag member) d.inverse) same ∙ second)
 
   -- ---- lists
 
@@ -259,20 +301,16 @@ module _ (schema : Schema) (old new : List PageImage) (address member : ℕ) (ta
         → LeavesGraph schema old new (record graph { lists = maps.insert graph.lists (object_member tag member) names })
     list_leaves names some named =
         let stands = holds.stands in
-        leaves (maps.insert graph.lists (object_member tag member) names) graph.dictionaries graph.pairs
+        leaves (list_no_link def.kind kind) (maps.insert graph.lists (object_member tag member) names) graph.dictionaries
         (list_put schema (heap_of schema old) (heap_of schema new) address member tag def write.slots write.was write.is write.chain write.links write.changes holds.cells_kept.chains holds.cells_kept.pointers holds.cells_kept.items own kind names
         (λ none. some (ap entry_items (sym write.after_is) ∙ no_items (entries_of write.links) none))
         (items_names (heap_of schema new) (entries_of write.links) ∙ ap (λ es. map (name_at (heap_of schema new)) (entry_items es)) write.after_is ∙ named)
         graph.lists stands.lists)
         (dictionaries_stay schema (heap_of schema old) (heap_of schema new) address member tag def write.slots write.was write.is write.chain write.links write.changes holds.cells_kept.chains holds.cells_kept.pointers holds.cells_kept.items own (λ keyed. no_both keyed) graph.dictionaries stands.dictionaries)
-        (pairs_stay schema (heap_of schema old) (heap_of schema new) address member tag def write.slots write.was write.is write.chain write.links write.changes holds.cells_kept.chains holds.cells_kept.pointers holds.cells_kept.items own no_link graph.pairs stands.pairs)
       where
         no_both : (chunk_code def.kind ≡ 242) ⊎ (chunk_code def.kind ≡ 243) → ⊥
         no_both (inl first) = omega (arith, first, kind)
         no_both (inr second) = omega (arith, second, kind)
-
-        no_link : link_target def.kind ≡ None
-        no_link = list_no_link def.kind kind
 
   -- ---- dictionaries
 
@@ -314,17 +352,16 @@ module _ (schema : Schema) (old new : List PageImage) (address member : ℕ) (ta
     dictionary_leaves bindings bound emptied =
         let stands = holds.stands in
         let lists = lists_stay schema (heap_of schema old) (heap_of schema new) address member tag def write.slots write.was write.is write.chain write.links write.changes holds.cells_kept.chains holds.cells_kept.pointers holds.cells_kept.items own (λ list. no_list keyed list) graph.lists stands.lists in
-        let pairs = pairs_stay schema (heap_of schema old) (heap_of schema new) address member tag def write.slots write.was write.is write.chain write.links write.changes holds.cells_kept.chains holds.cells_kept.pointers holds.cells_kept.items own (dictionary_no_link def.kind keyed) graph.pairs stands.pairs in
         elim (cases_eq (maps.len bindings) 0) [
           | inl empty ↦
               subst (λ b. LeavesGraph schema old new (record graph { dictionaries = cond b (maps.remove graph.dictionaries (object_member tag member)) (maps.insert graph.dictionaries (object_member tag member) bindings) }))
               (sym (ap (λ (n : ℕ). eqb n 0) empty))
-              (leaves graph.lists (maps.remove graph.dictionaries (object_member tag member)) graph.pairs lists (dictionary_gone schema (heap_of schema old) (heap_of schema new) address member tag def write.slots write.was write.is write.chain write.links write.changes holds.cells_kept.chains holds.cells_kept.pointers holds.cells_kept.items own graph.dictionaries stands.dictionaries (emptied empty)) pairs)
+              (leaves (dictionary_no_link def.kind keyed) graph.lists (maps.remove graph.dictionaries (object_member tag member)) lists (dictionary_gone schema (heap_of schema old) (heap_of schema new) address member tag def write.slots write.was write.is write.chain write.links write.changes holds.cells_kept.chains holds.cells_kept.pointers holds.cells_kept.items own graph.dictionaries stands.dictionaries (emptied empty)))
           | inr some ↦
               subst (λ b. LeavesGraph schema old new (record graph { dictionaries = cond b (maps.remove graph.dictionaries (object_member tag member)) (maps.insert graph.dictionaries (object_member tag member) bindings) }))
               (sym (ne_eqb (maps.len bindings) 0 some))
-              (leaves graph.lists (maps.insert graph.dictionaries (object_member tag member) bindings) graph.pairs lists
-              (dictionary_put schema (heap_of schema old) (heap_of schema new) address member tag def write.slots write.was write.is write.chain write.links write.changes holds.cells_kept.chains holds.cells_kept.pointers holds.cells_kept.items own graph.dictionaries stands.dictionaries keyed bindings (λ none. some (no_bindings none)) bound) pairs)
+              (leaves (dictionary_no_link def.kind keyed) graph.lists (maps.insert graph.dictionaries (object_member tag member) bindings) lists
+              (dictionary_put schema (heap_of schema old) (heap_of schema new) address member tag def write.slots write.was write.is write.chain write.links write.changes holds.cells_kept.chains holds.cells_kept.pointers holds.cells_kept.items own graph.dictionaries stands.dictionaries keyed bindings (λ none. some (no_bindings none)) bound))
         ]
       where
         no_list : (chunk_code def.kind ≡ 242) ⊎ (chunk_code def.kind ≡ 243) → 241 ≡ chunk_code def.kind → ⊥
@@ -498,6 +535,7 @@ pair_is tag member y pair link first second = λ i. record { link = link i; firs
 
 module _ (schema : Schema) (old new : List PageImage) (address member : ℕ) (tag : RowTag) (def : MemberDef) (before after : List ChunkEntry) (graph : Graph)
     (holds : HoldGraph schema old graph) (write : WritesCollection schema old new address member tag def before after) (target : TypeNo) (kind : def.kind ≡ kinds.Set target)
+    (first : comes_first (type_member tag member) def.inverse ≡ true)
     (pointer : ℕ) (to : PlacedCell) (there : cell_at old pointer ≡ Some to) where
   set_code : chunk_code def.kind ≡ 240
   set_code = ap chunk_code kind
@@ -513,28 +551,28 @@ module _ (schema : Schema) (old new : List PageImage) (address member : ℕ) (ta
   to_was : (y : Name) (p : ℕ) → Contains (entry_items before) p → name_at (heap_of schema new) p ≡ Some y → (q : ℕ) × Contains (entry_items (entries_of write.chain)) q × (name_at (heap_of schema old) q ≡ Some y)
   to_was y p held named = (p, subst (λ es. Contains (entry_items es) p) (sym write.before_is) held, sym (old_item schema old new address member tag def before after graph holds write p held) ∙ named)
 
-  set_leaves : (changed : sets.FinSet pair_cmp)
+  set_holds : (changed : sets.FinSet pair_cmp)
       → ((pair : Pair) → sets.contains changed pair ≡ true → ((pair.link ≡ type_member tag member) × (pair.first ≡ name_in tag) × ((p : ℕ) × Contains (entry_items (entries_of write.links)) p × (name_at (heap_of schema new) p ≡ Some pair.second))) ⊎ ((pair.link ≡ type_member tag member → pair.first ≡ name_in tag → ⊥) × (sets.contains graph.pairs pair ≡ true)))
       → ((pair : Pair) → pair.link ≡ type_member tag member → pair.first ≡ name_in tag → ((p : ℕ) × Contains (entry_items (entries_of write.links)) p × (name_at (heap_of schema new) p ≡ Some pair.second)) → sets.contains changed pair ≡ true)
       → ((pair : Pair) → (pair.link ≡ type_member tag member → pair.first ≡ name_in tag → ⊥) → sets.contains graph.pairs pair ≡ true → sets.contains changed pair ≡ true)
-      → LeavesGraph schema old new (record graph { pairs = changed })
-  set_leaves changed forth here away =
+      → HoldGraph schema new (record graph { pairs = changed })
+  set_holds changed forth here away =
       let stands = holds.stands in
-      leaves schema old new address member tag def before after graph holds write graph.lists graph.dictionaries changed
+      holds_now schema old new address member tag def before after graph holds write graph.lists graph.dictionaries changed
       (lists_stay schema (heap_of schema old) (heap_of schema new) address member tag def write.slots write.was write.is write.chain write.links write.changes holds.cells_kept.chains holds.cells_kept.pointers holds.cells_kept.items (own schema old new address member tag def before after graph holds write) (λ list. omega (arith, list, set_code)) graph.lists stands.lists)
       (dictionaries_stay schema (heap_of schema old) (heap_of schema new) address member tag def write.slots write.was write.is write.chain write.links write.changes holds.cells_kept.chains holds.cells_kept.pointers holds.cells_kept.items (own schema old new address member tag def before after graph holds write) (λ keyed. no_dictionary keyed) graph.dictionaries stands.dictionaries)
-      (pairs_changed schema (heap_of schema old) (heap_of schema new) address member tag def write.slots write.was write.is write.chain write.links write.changes holds.cells_kept.chains holds.cells_kept.pointers holds.cells_kept.items (own schema old new address member tag def before after graph holds write) target kind write.alone graph.pairs changed forth here away stands.pairs)
+      (pairs_changed schema (heap_of schema old) (heap_of schema new) address member tag def write.slots write.was write.is write.chain write.links write.changes holds.cells_kept.chains holds.cells_kept.pointers holds.cells_kept.items (own schema old new address member tag def before after graph holds write) target kind first graph.pairs changed forth here away stands.pairs)
     where
       no_dictionary : (chunk_code def.kind ≡ 242) ⊎ (chunk_code def.kind ≡ 243) → ⊥
       no_dictionary (inl first) = omega (arith, first, set_code)
       no_dictionary (inr second) = omega (arith, second, set_code)
 
   paired : (pair : Pair) → pair.link ≡ type_member tag member → pair.first ≡ name_in tag → (sets.contains graph.pairs pair ≡ true) ↔ ((p : ℕ) × Contains (entry_items (entries_of write.chain)) p × (name_at (heap_of schema old) p ≡ Some pair.second))
-  paired pair link first = was_paired schema (heap_of schema old) (heap_of schema new) address member tag def write.slots write.was write.is write.chain write.links write.changes holds.cells_kept.chains holds.cells_kept.pointers holds.cells_kept.items (own schema old new address member tag def before after graph holds write) target kind write.alone graph.pairs holds.stands.pairs pair link first
+  paired pair link starts = was_paired schema (heap_of schema old) (heap_of schema new) address member tag def write.slots write.was write.is write.chain write.links write.changes holds.cells_kept.chains holds.cells_kept.pointers holds.cells_kept.items (own schema old new address member tag def before after graph holds write) target kind first graph.pairs holds.stands.pairs pair link starts
 
-  insert_leaves : ((item : ℕ) → Contains (entry_items after) item ↔ ((item ≡ pointer) ⊎ Contains (entry_items before) item))
-      → LeavesGraph schema old new (record graph { pairs = sets.insert graph.pairs the_pair })
-  insert_leaves spec = set_leaves (sets.insert graph.pairs the_pair) forth here away
+  insert_holds : ((item : ℕ) → Contains (entry_items after) item ↔ ((item ≡ pointer) ⊎ Contains (entry_items before) item))
+      → HoldGraph schema new (record graph { pairs = sets.insert graph.pairs the_pair })
+  insert_holds spec = set_holds (sets.insert graph.pairs the_pair) forth here away
     where
       got : (pair : Pair) → sets.contains (sets.insert graph.pairs the_pair) pair ≡ (eq_by_cmp pair_cmp pair the_pair || sets.contains graph.pairs pair)
       got pair = set_facts.contains-insert pair_cmp-IsTotalOrder graph.pairs the_pair pair
@@ -563,20 +601,20 @@ module _ (schema : Schema) (old new : List PageImage) (address member : ℕ) (ta
       ]
 
       here : (pair : Pair) → pair.link ≡ type_member tag member → pair.first ≡ name_in tag → ((p : ℕ) × Contains (entry_items (entries_of write.links)) p × (name_at (heap_of schema new) p ≡ Some pair.second)) → sets.contains (sets.insert graph.pairs the_pair) pair ≡ true
-      here pair link first item = elim ((spec item.0).0 (subst (λ es. Contains (entry_items es) item.0) write.after_is item.1)) [
+      here pair link starts item = elim ((spec item.0).0 (subst (λ es. Contains (entry_items es) item.0) write.after_is item.1)) [
         | inl this ↦
             let second : pair.second ≡ name_of to = same_Some _ _ (sym item.2 ∙ ap (name_at (heap_of schema new)) this ∙ (item_named schema old new address member tag def before after graph holds write pointer to there).1) in
-            got pair ∙ ap (λ b. b || sets.contains graph.pairs pair) (same_tied pair_cmp-IsTotalOrder pair the_pair (pair_is tag member (name_of to) pair link first second))
-        | inr held ↦ stays pair ((paired pair link first).1 (to_was pair.second item.0 held item.2))
+            got pair ∙ ap (λ b. b || sets.contains graph.pairs pair) (same_tied pair_cmp-IsTotalOrder pair the_pair (pair_is tag member (name_of to) pair link starts second))
+        | inr held ↦ stays pair ((paired pair link starts).1 (to_was pair.second item.0 held item.2))
       ]
 
       away : (pair : Pair) → (pair.link ≡ type_member tag member → pair.first ≡ name_in tag → ⊥) → sets.contains graph.pairs pair ≡ true → sets.contains (sets.insert graph.pairs the_pair) pair ≡ true
       away pair off e = stays pair e
 
-  remove_leaves : is_type_code to.code ≡ true → ((item : ℕ) → Contains (entry_items after) item ↔ ((item ≢ pointer) × Contains (entry_items before) item))
-      → LeavesGraph schema old new (record graph { pairs = sets.remove graph.pairs the_pair })
+  remove_holds : is_type_code to.code ≡ true → ((item : ℕ) → Contains (entry_items after) item ↔ ((item ≢ pointer) × Contains (entry_items before) item))
+      → HoldGraph schema new (record graph { pairs = sets.remove graph.pairs the_pair })
   unfolding heap_of
-  remove_leaves typed spec = set_leaves (sets.remove graph.pairs the_pair) forth here away
+  remove_holds typed spec = set_holds (sets.remove graph.pairs the_pair) forth here away
     where
       got : (pair : Pair) → sets.contains (sets.remove graph.pairs the_pair) pair ≡ (not (eq_by_cmp pair_cmp pair the_pair) && sets.contains graph.pairs pair)
       got pair = set_facts.contains-remove pair_cmp-IsTotalOrder graph.pairs the_pair pair
@@ -608,25 +646,45 @@ module _ (schema : Schema) (old new : List PageImage) (address member : ℕ) (ta
           ]
 
       here : (pair : Pair) → pair.link ≡ type_member tag member → pair.first ≡ name_in tag → ((p : ℕ) × Contains (entry_items (entries_of write.links)) p × (name_at (heap_of schema new) p ≡ Some pair.second)) → sets.contains (sets.remove graph.pairs the_pair) pair ≡ true
-      here pair link first item =
+      here pair link starts item =
           let left = (spec item.0).0 (subst (λ es. Contains (entry_items es) item.0) write.after_is item.1) in
           stays pair
           (λ same. left.0 (own_name item.0 left.1 (sym (old_item schema old new address member tag def before after graph holds write item.0 left.1) ∙ item.2 ∙ ap (λ (p : Pair). Some p.second) same)))
-          ((paired pair link first).1 (to_was pair.second item.0 left.1 item.2))
+          ((paired pair link starts).1 (to_was pair.second item.0 left.1 item.2))
 
       away : (pair : Pair) → (pair.link ≡ type_member tag member → pair.first ≡ name_in tag → ⊥) → sets.contains graph.pairs pair ≡ true → sets.contains (sets.remove graph.pairs the_pair) pair ≡ true
       away pair off e = stays pair (λ same. off (ap (λ (p : Pair). p.link) same) (ap (λ (p : Pair). p.first) same)) e
 
 pub inserts_law : LawOfInserts
-inserts_law schema old new address member tag def target before after pointer to graph at holds write kind there spec found =
+inserts_law schema old new address member tag def target before after pointer to graph at holds write kind alone there spec found =
     subst (λ a. LeavesGraph schema old new (with_joined schema graph a (name_of to))) (live_parts schema (name_in tag) (type_member tag member) at found).2
     (subst (λ pairs. LeavesGraph schema old new (record graph { pairs = pairs }))
-    (sym (joined_by_set schema (type_member tag member) (name_in tag) (name_of to) graph.pairs def write.changes.defined write.alone (ap is_ref kind)))
-    (insert_leaves schema old new address member tag def before after graph holds write target kind pointer to there spec))
+    (sym (joined_by_set schema (type_member tag member) (name_in tag) (name_of to) graph.pairs def write.changes.defined alone (ap is_ref kind)))
+    (record {
+      holds = insert_holds schema old new address member tag def before after graph holds write target kind (ap (comes_first (type_member tag member)) alone) pointer to there spec;
+      links_kept = links_left schema old new address member tag def before after graph holds write alone;
+    }))
 
 pub removes_law : LawOfRemoves
-removes_law schema old new address member tag def target before after pointer to graph at holds write kind there typed spec found =
+removes_law schema old new address member tag def target before after pointer to graph at holds write kind alone there typed spec found =
     subst (λ (a : LiveMember). LeavesGraph schema old new (record graph { pairs = sets.remove graph.pairs (pair_at schema a.at a.owner (name_of to)) })) (live_parts schema (name_in tag) (type_member tag member) at found).2
     (subst (λ pair. LeavesGraph schema old new (record graph { pairs = sets.remove graph.pairs pair }))
-    (sym (own_pair schema (type_member tag member) (name_in tag) (name_of to) graph.pairs def write.changes.defined write.alone))
-    (remove_leaves schema old new address member tag def before after graph holds write target kind pointer to there typed spec))
+    (sym (own_pair schema (type_member tag member) (name_in tag) (name_of to) graph.pairs def write.changes.defined alone))
+    (record {
+      holds = remove_holds schema old new address member tag def before after graph holds write target kind (ap (comes_first (type_member tag member)) alone) pointer to there typed spec;
+      links_kept = links_left schema old new address member tag def before after graph holds write alone;
+    }))
+
+-- ---- two-sided sets
+
+pub first_inserts_law : LawOfFirstSideInserts
+first_inserts_law schema old new address member tag def target inverse before after pointer to graph holds write kind sided first there spec =
+    insert_holds schema old new address member tag def before after graph holds write target kind (ap (comes_first (type_member tag member)) sided ∙ first) pointer to there spec
+
+pub first_removes_law : LawOfFirstSideRemoves
+first_removes_law schema old new address member tag def target inverse before after pointer to graph holds write kind sided first there typed spec =
+    remove_holds schema old new address member tag def before after graph holds write target kind (ap (comes_first (type_member tag member)) sided ∙ first) pointer to there typed spec
+
+pub second_sides_law : LawOfSecondSides
+second_sides_law schema old new address member tag def target inverse before after graph holds write kind sided second =
+    second_holds schema old new address member tag def before after graph holds write (ap chunk_code kind) (ap (comes_first (type_member tag member)) sided ∙ second)

@@ -1,17 +1,14 @@
 -- A transaction's commands are among its script's, so they count for no more.
-use Rattle.std.proofs.Common.{◌≡◌, ℕ, zero, suc, ◌+◌, ◌-◌, ◌*◌, ◌≤◌, Bool, true, false, List, [], ◌∷◌, ◌++◌, length, map, filter, Option, Some, None, refl, sym, ap, subst, ◌∙◌, arith}
+use Rattle.std.proofs.Common.{◌≡◌, ℕ, zero, suc, ◌+◌, ◌-◌, ◌*◌, ◌≤◌, Bool, true, false, List, [], ◌∷◌, ◌++◌, length, filter, Option, Some, None, refl, ap, subst, ◌∙◌, arith}
 use Rattle.std.specs.Prelude.{flat_map, slice_get, unwrap_or, if◌then◌else◌, ◌==◌}
 use Rattle.std.specs.Option.{option_and_then}
-use Rattle.std.specs.FinMap as maps
 use Rattle.std.proofs.lemmas.Nat.{mul-le}
 use Rattle.std.proofs.lemmas.List.{length-append}
 use Rattle.std.proofs.lemmas.List.Elements.{filter-append}
 use Rattle.ostore_graph_model.specs.declared.commands.Command.{Command}
 use Rattle.ostore_graph_model.specs.declared.commands.Txn.{Txn}
 use Rattle.ostore_graph_model.specs.declared.commands.Script.{Script}
-use Rattle.ostore_graph_model.specs.Graph.{Graph}
-use Rattle.ostore_graph_model.specs.History.{txn_at}
-use Rattle.ostore_graph_model.specs.Growth.{growth_by, declares, growth, update_commands, script_growth, LawOfGrowth}
+use Rattle.ostore_graph_model.specs.Growth.{growth_by, declares, update_commands, LawOfGrowth}
 
 growth_rises : (c p i n d q j m : ℕ) → c ≤ d → p ≤ q → i ≤ j → n ≤ m → growth_by c p i n ≤ growth_by d q j m
 growth_rises c p i n d q j m cs ps is ns =

@@ -55,22 +55,23 @@ IsEmptySlot Slot.Plain = Unit {0}
 IsEmptySlot (Slot.Refers pointer) = pointer ≡ 0
 IsEmptySlot (Slot.Begins head) = head ≡ record { first = 0; count = 0; descriptor = 0 }
 
--- a reference that is a one-sided link
-pub record IsOwnReference (def : MemberDef) (slot : Slot) : Type 0 where
-  pub alone : def.inverse ≡ None
+-- a reference with this inverse, or with none
+pub record IsReferenceWith (inverse : Option Inverse) (def : MemberDef) (slot : Slot) : Type 0 where
+  pub sided : def.inverse ≡ inverse
   pub pointer : ℕ
   pub is : slot ≡ Slot.Refers pointer
 
--- The object at one address is another, or a new one. Its members are as they were, but for one-sided
--- references and for members that hold nothing.
+-- The object at one address is another, or a new one. Its members are as they were, but for references with one
+-- inverse or with none, and for members that hold nothing.
 pub record ChangesObject (schema : Schema) (heap now : Heap) (address : ℕ) : Type 0 where
   pub others : (other : ℕ) → other ≢ address → now other ≡ heap other
   pub before : (code : ℕ) → code_at heap address ≡ Some code → is_type_code code ≡ true
   pub after : (code : ℕ) → code_at now address ≡ Some code → is_type_code code ≡ true
   pub object : (links : Links) → links_at now address ≡ Some links → (slots : List Slot) × (links ≡ Links.Object slots)
   pub codes : (other code : ℕ) → code_at heap other ≡ Some code → code_at now other ≡ Some code
-  pub members : (member : ℕ) (tag : RowTag) (def : MemberDef) (slot : Slot) → HasMember schema now address member tag def slot → HasMember schema heap address member tag def slot ⊎ (IsEmptySlot slot ⊎ IsOwnReference def slot)
-  pub kept : (member : ℕ) (tag : RowTag) (def : MemberDef) (slot : Slot) → HasMember schema heap address member tag def slot → HasMember schema now address member tag def slot ⊎ IsOwnReference def slot
+  pub inverse : Option Inverse
+  pub members : (member : ℕ) (tag : RowTag) (def : MemberDef) (slot : Slot) → HasMember schema now address member tag def slot → HasMember schema heap address member tag def slot ⊎ (IsEmptySlot slot ⊎ IsReferenceWith inverse def slot)
+  pub kept : (member : ℕ) (tag : RowTag) (def : MemberDef) (slot : Slot) → HasMember schema heap address member tag def slot → HasMember schema now address member tag def slot ⊎ IsReferenceWith inverse def slot
   -- the pointers in it lead to rows
   pub pointers : (member : ℕ) (tag : RowTag) (def : MemberDef) (slot : Slot) → HasMember schema now address member tag def slot → HasGoodPointers schema now def.kind slot
 
@@ -309,21 +310,21 @@ module _ (schema : Schema) (heap now : Heap) (address : ℕ) (change : ChangesOb
           no_item (entry ∷ entries) e has = cc
       no_entries (one ∷ chain) linked all there = linked.0 (ap (λ (h : CollectionHead). h.first) none)
 
-  -- a side of a two-sided link is as it was
-  sided_back : (other member : ℕ) (tag : RowTag) (def : MemberDef) (slot : Slot) (target : ℕ) → HasMember schema now other member tag def slot → def.inverse ≢ None → LeadsTo now tag.segment def.kind slot target → HasMember schema heap other member tag def slot
-  sided_back other member tag def slot target has sided leads = elim (cases_eq other address) [
+  -- where the references that changed are one-sided, a side of a two-sided link is as it was
+  sided_back : change.inverse ≡ None → (other member : ℕ) (tag : RowTag) (def : MemberDef) (slot : Slot) (target : ℕ) → HasMember schema now other member tag def slot → def.inverse ≢ None → LeadsTo now tag.segment def.kind slot target → HasMember schema heap other member tag def slot
+  sided_back alone other member tag def slot target has sided leads = elim (cases_eq other address) [
     | inl same ↦ elim (change.members member tag def slot (subst (λ a. HasMember schema now a member tag def slot) same has)) [
       | inl was ↦ subst (λ a. HasMember schema heap a member tag def slot) (sym same) was
-      | inr free ↦ elim free [ inl none ↦ absurd (no_empty_leads tag.segment def.kind slot target none leads) | inr own ↦ absurd (sided own.alone) ]
+      | inr free ↦ elim free [ inl none ↦ absurd (no_empty_leads tag.segment def.kind slot target none leads) | inr own ↦ absurd (sided (own.sided ∙ alone)) ]
     ]
     | inr apart ↦ member_elsewhere schema now heap other member tag def slot (back other apart) has
   ]
 
-  sided_kept : (other member : ℕ) (tag : RowTag) (def : MemberDef) (slot : Slot) → HasMember schema heap other member tag def slot → def.inverse ≢ None → HasMember schema now other member tag def slot
-  sided_kept other member tag def slot has sided = elim (cases_eq other address) [
+  sided_kept : change.inverse ≡ None → (other member : ℕ) (tag : RowTag) (def : MemberDef) (slot : Slot) → HasMember schema heap other member tag def slot → def.inverse ≢ None → HasMember schema now other member tag def slot
+  sided_kept alone other member tag def slot has sided = elim (cases_eq other address) [
     | inl same ↦ elim (change.kept member tag def slot (subst (λ a. HasMember schema heap a member tag def slot) same has)) [
       | inl stays ↦ subst (λ a. HasMember schema now a member tag def slot) (sym same) stays
-      | inr own ↦ absurd (sided own.alone)
+      | inr own ↦ absurd (sided (own.sided ∙ alone))
     ]
     | inr apart ↦ member_elsewhere schema heap now other member tag def slot (change.others other apart) has
   ]
@@ -331,16 +332,16 @@ module _ (schema : Schema) (heap now : Heap) (address : ℕ) (change : ChangesOb
   some_none : (inverse : Inverse) (found : Option Inverse) → found ≡ Some inverse → found ≢ None
   some_none inverse found e none = none-some inverse (sym none ∙ e)
 
-  pub links_kept : ((other : ℕ) → KeepsLinks schema heap other) → (other : ℕ) → KeepsLinks schema now other
-  links_kept keeps other member tag def slot inverse target has is leads =
+  pub links_kept : change.inverse ≡ None → ((other : ℕ) → KeepsLinks schema heap other) → (other : ℕ) → KeepsLinks schema now other
+  links_kept alone keeps other member tag def slot inverse target has is leads =
       let sided = some_none inverse def.inverse is in
-      let was = sided_back other member tag def slot target has sided leads in
+      let was = sided_back alone other member tag def slot target has sided leads in
       let side = keeps other member tag def slot inverse target was is (leads_kept now heap address (λ a apart. sym (change.others a apart)) change.after tag.segment def.kind slot target leads) in
       record {
         tag = side.tag;
         def = side.def;
         slot = side.slot;
-        has = sided_kept target inverse.member.0 side.tag side.def side.slot side.has side.sided;
+        has = sided_kept alone target inverse.member.0 side.tag side.def side.slot side.has side.sided;
         sided = side.sided;
         leads = leads_kept heap now address change.others change.before side.tag.segment side.def.kind side.slot other side.leads;
       }

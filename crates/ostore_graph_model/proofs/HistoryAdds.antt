@@ -1,19 +1,18 @@
 -- One transaction that commits next is a legal history by itself, and so it may be added at the end.
-use Rattle.std.proofs.Common.{◌≡◌, ◌≢◌, ℕ, ◌+◌, ◌-◌, ◌<◌, ◌≤◌, Bool, true, false, cond, List, [], ◌∷◌, ◌++◌, map, length, get_or, Some, refl, sym, ap, subst, ◌∙◌, arith}
+use Rattle.std.proofs.Common.{◌≡◌, ◌≢◌, ℕ, ◌+◌, ◌≤◌, Bool, true, false, cond, List, [], ◌∷◌, map, length, get_or, refl, sym, ap, subst, ◌∙◌, arith}
 use Rattle.std.specs.Prelude.{All, AllPairs, IsPermutation}
 use Rattle.std.specs.List.{range_with_len}
 use Rattle.std.proofs.lemmas.Bool.{cond-false, lt-leb}
 use Rattle.std.proofs.lemmas.List.Elements.{All-nil, All-cons}
 use Rattle.std.proofs.lemmas.List.Sorted.{IsPermutation-refl}
 use Rattle.ostore_base.specs.declared.numbers.ClientNo.{ClientNo}
-use Rattle.ostore_graph_model.specs.declared.commands.Txn.{Txn}
 use Rattle.ostore_graph_model.specs.declared.commands.Script.{Script}
 use Rattle.ostore_graph_model.specs.declared.history.Committed.{Committed}
 use Rattle.ostore_graph_model.specs.Graph.{Graph}
-use Rattle.ostore_graph_model.specs.Transaction.{Ran, transaction}
+use Rattle.ostore_graph_model.specs.Transaction.{transaction}
 use Rattle.ostore_graph_model.specs.History.{updates, last_number, number_before, IsRight, InOrder, IsLegalHistory}
 use Rattle.ostore_graph_model.specs.LawsOfHistories.{MayFollow, LawOfAddedUpdates, LawOfAddedReads, LawOfAddedClients}
-use Rattle.ostore_graph_model.proofs.HistoryJoins.{graphs_up_to, graphs-before, graphs-after, histories_join}
+use Rattle.ostore_graph_model.proofs.HistoryJoins.{graphs_up_to, graphs-before, histories_join}
 
 -- one update alone
 pub updates-update : (one : Committed) → one.entry.update ≡ true → updates (one ∷ []) ≡ one ∷ []

@@ -1,5 +1,5 @@
 -- Two legal histories, of which the second goes on where the first ends, are one.
-use Rattle.std.proofs.Common.{◌≡◌, ◌≢◌, ℕ, zero, suc, ◌+◌, ◌-◌, ◌<◌, ◌≤◌, Bool, true, false, cond, leb, List, [], ◌∷◌, ◌++◌, map, length, get_or, refl, sym, ap, subst, ◌∙◌, arith}
+use Rattle.std.proofs.Common.{◌≡◌, ℕ, zero, suc, ◌+◌, ◌<◌, ◌≤◌, Bool, true, false, cond, leb, List, [], ◌∷◌, ◌++◌, map, length, get_or, refl, sym, ap, subst, ◌∙◌, arith}
 use Rattle.std.proofs.Common.{⊎_elim}
 use Rattle.std.specs.Prelude.{All, AllPairs, IsPermutation}
 use Rattle.std.specs.List.{range_with_len}
@@ -9,11 +9,10 @@ use Rattle.std.proofs.lemmas.List.Elements.{All-nil, All-cons, All-head, All-tai
 use Rattle.std.proofs.lemmas.List.FromFn.{length-range_with_len, get_or-range_with_len}
 use Rattle.std.proofs.lemmas.List.Kept.{AllPairs-cons}
 use Rattle.std.proofs.lemmas.List.Sorted.{All-permutation, IsPermutation-append, IsPermutation-sym}
-use Rattle.ostore_graph_model.specs.declared.commands.Txn.{Txn}
 use Rattle.ostore_graph_model.specs.declared.commands.Script.{Script}
 use Rattle.ostore_graph_model.specs.declared.history.Committed.{Committed}
 use Rattle.ostore_graph_model.specs.Graph.{Graph}
-use Rattle.ostore_graph_model.specs.Transaction.{Ran, transaction}
+use Rattle.ostore_graph_model.specs.Transaction.{transaction}
 use Rattle.ostore_graph_model.specs.History.{updates, last_number, number_before, IsRight, InOrder, IsLegalHistory}
 
 -- ---- lists

@@ -58,3 +58,5 @@ pub mod SetFacts
 pub mod JoinedFacts
 pub mod SizeLaw
 pub mod PartnerLaws
+pub mod Meant
+pub mod BothSides

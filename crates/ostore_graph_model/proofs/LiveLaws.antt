@@ -1,43 +1,34 @@
 -- Commands keep a graph that holds live objects alone.
-use Rattle.std.proofs.Common.{◌≡◌, ◌≢◌, ℕ, zero, suc, ◌+◌, ◌≤◌, ◌<◌, Bool, true, false, List, [], ◌∷◌, ◌++◌, length, set, Option, Some, None, refl, sym, ap, subst, ◌∙◌, arith, cond}
-use Rattle.std.specs.Prelude.{not, ◌&&◌, ◌||◌, is_some, nat_le, unwrap_or, slice_set, slice_get, ◌==◌, if◌then◌else◌}
+use Rattle.std.proofs.Common.{◌≡◌, ◌≢◌, ℕ, ◌≤◌, Bool, true, false, List, [], ◌∷◌, ◌++◌, length, Option, Some, None, refl, sym, ap, subst, ◌∙◌, arith, cond}
+use Rattle.std.specs.Prelude.{not, ◌&&◌, ◌||◌, is_some, nat_le, unwrap_or, slice_set, ◌==◌, if◌then◌else◌}
 use Rattle.std.proofs.lemmas.Bool.{leb-false}
-use Rattle.std.specs.Option.{option_map, option_and_then, option_or}
 use Rattle.std.specs.FinMap as maps
 use Rattle.std.specs.Ordering.{eq_by_cmp}
 use Rattle.std.specs.Cmp.{IsTotalOrder}
 use Rattle.std.specs.List.{list_any}
 use Rattle.std.specs.declared.cmp.Ordering.{Ordering}
 use Rattle.ostore_schema_layout.specs.declared.schema.Schema.{Schema}
-use Rattle.ostore_schema_layout.specs.declared.schema.MemberKind.{MemberKind}
-use Rattle.ostore_schema_layout.specs.declared.schema.MemberDef.{MemberDef}
-use Rattle.ostore_schema_layout.specs.declared.schema.MemberNo.{MemberNo}
-use Rattle.ostore_schema_layout.specs.declared.schema.TypeNo.{TypeNo}
 use Rattle.ostore_schema_layout.specs.declared.schema.Inverse.{Inverse}
-use Rattle.ostore_schema_layout.specs.Numbers.{type_named, member_named}
+use Rattle.ostore_schema_layout.specs.Numbers.{type_named}
 use Rattle.ostore_graph_model.specs.declared.values.Name.{Name}
-use Rattle.ostore_graph_model.specs.declared.values.Reply.{Reply}
-use Rattle.ostore_graph_model.specs.declared.refusal.Refusal.{Refusal}
-use Rattle.ostore_graph_model.specs.declared.refusal.Refusal.TheVariants.{ReadOnly, NoVariable, Dangling, WrongKind, OutOfRange}
+use Rattle.ostore_graph_model.specs.declared.refusal.Refusal.TheVariants.{OutOfRange}
 use Rattle.ostore_graph_model.specs.declared.commands.Command.{Command}
 use Rattle.ostore_graph_model.specs.declared.commands.Command.TheVariants.{New, Find, Root, SetRoot, Get, Set, Follow, Delete, Insert, Remove, Members, Size, Append, Put, At, Bind, Look, Unbind, Index, Unindex, Query}
 use Rattle.ostore_graph_model.specs.declared.commands.Operand.TheVariants as operands
-use Rattle.ostore_graph_model.specs.declared.commands.Key.{Key}
 use Rattle.ostore_graph_model.specs.Sets as sets
-use Rattle.ostore_graph_model.specs.Orders.{name_cmp, text_cmp, key_cmp, TypeMember, Pair, pair_cmp, ObjectMember, object_member_cmp, PathIndex, index_cmp}
-use Rattle.ostore_graph_model.specs.Graph.{Graph, Object, Dictionary, is_drawn, is_live, last_serial, empty_graph}
+use Rattle.ostore_graph_model.specs.Orders.{name_cmp, text_cmp, TypeMember, Pair, pair_cmp, ObjectMember, object_member_cmp, PathIndex, index_cmp}
+use Rattle.ostore_graph_model.specs.Graph.{Graph, Object, Dictionary, is_drawn, is_live, empty_graph}
 use Rattle.ostore_graph_model.specs.Kinds.{no_type}
-use Rattle.ostore_graph_model.specs.Links.{same_name, comes_first, member_of_inverse, pair_from, pair_at, inverse_at, is_displaced, joined, joins_from, parted, goes_with, is_two_sided, def_of}
-use Rattle.ostore_graph_model.specs.Deeds.{Vars, Stepped, Deed, Test, LiveMember, refused, refused_or, refused_where, first_refusal, live_member, member_at_type, bound_to, own_member, object_of, of_other_type}
+use Rattle.ostore_graph_model.specs.Links.{same_name, comes_first, member_of_inverse, pair_from, pair_at, inverse_at, is_displaced, joined, goes_with, is_two_sided}
+use Rattle.ostore_graph_model.specs.Deeds.{Vars, Stepped, bound_to, own_member, of_other_type}
 use Rattle.ostore_graph_model.specs.Deeds.Objects.{next_name, new_object, with_new, without_object}
 use Rattle.ostore_graph_model.specs.Deeds.Collections.{items_of, out_of_range}
-use Rattle.ostore_graph_model.specs.Step.{Task, Line, line_of, line_tests, member_tests, member_gives, task_tests, task_gives, is_dangling, is_unbound, step, Steps}
+use Rattle.ostore_graph_model.specs.Step.{line_of, is_dangling, step}
 use Rattle.ostore_graph_model.specs.LiveGraphs.{IsLive, HoldsLive, LawOfLiveGraphs}
 use Rattle.ostore_graph_model.proofs.PassedLaws.{split, passes, one_live, two_live, TaskMay, step_may}
 use Rattle.ostore_graph_model.proofs.StepLaws.{task_keeps, names_new}
 use Rattle.std.proofs.lemmas.List.{length-set}
-use Rattle.ostore_graph_model.proofs.KeyLaws.{key_cmp-IsTotalOrder}
-use Rattle.ostore_graph_model.proofs.OrderLaws.{tied_same, same_tied, name_cmp-IsTotalOrder, name_cmp-IsAntisymmetric, pair_cmp-IsTotalOrder, pair_cmp-IsAntisymmetric, object_member_cmp-IsTotalOrder, object_member_cmp-IsAntisymmetric, index_cmp-IsTotalOrder, index_cmp-IsAntisymmetric}
+use Rattle.ostore_graph_model.proofs.OrderLaws.{tied_same, name_cmp-IsTotalOrder, name_cmp-IsAntisymmetric, pair_cmp-IsTotalOrder, pair_cmp-IsAntisymmetric, object_member_cmp-IsTotalOrder, object_member_cmp-IsAntisymmetric, index_cmp-IsTotalOrder, index_cmp-IsAntisymmetric}
 
 -- ---- what is in a map after a change
 

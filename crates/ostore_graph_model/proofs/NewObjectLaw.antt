@@ -38,7 +38,7 @@ use Rattle.ostore_graph_model.proofs.WrittenLaws.{object_code_written}
 use Rattle.ostore_graph_model.proofs.HeapLaws.{ChangesObject, chains_kept, owners_kept, items_kept, pointers_kept, links_kept}
 use Rattle.ostore_graph_model.proofs.ShownLaws.{lists_kept, dictionaries_kept, indexes_kept, roots_kept, good_roots}
 use Rattle.ostore_graph_model.proofs.ZeroLaws.{values_zero, slots_zero, object_written_zero}
-use Rattle.ostore_graph_model.proofs.AddLaw.{AddsObject, added_codes, added_names, added_changes, added_serials, objects_added, pairs_added}
+use Rattle.ostore_graph_model.proofs.AddLaw.{AddsObject, added_codes, added_names, added_changes, added_alone, added_serials, objects_added, pairs_added}
 
 length_zeros : (n : ℕ) → length {A = ℕ} (replicate n 0) ≡ n
 length_zeros zero = refl
@@ -154,6 +154,10 @@ module _ (schema : Schema) (old new : List PageImage) (address segment serial pl
     change : ChangesObject schema (heap_of schema old) (heap_of schema new) address
     change = added_changes schema (heap_of schema old) (heap_of schema new) address tag slots object
 
+    change_alone : change.inverse ≡ None
+    unfolding change
+    change_alone = added_alone schema (heap_of schema old) (heap_of schema new) address tag slots object
+
     same_link : page_link (header_of adds.image.bytes) ≡ page_link (header_of adds.was.bytes)
     same_link = ap page_link adds.adds.header
 
@@ -202,7 +206,7 @@ module _ (schema : Schema) (old new : List PageImage) (address segment serial pl
             };
             stands = add_stands;
           };
-          links_kept = λ good. links_kept schema heap now address change good;
+          links_kept = λ good. links_kept schema heap now address change change_alone good;
         }
 
 pub new_law : LawOfNewObjects

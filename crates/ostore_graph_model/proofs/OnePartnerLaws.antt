@@ -1,24 +1,21 @@
 -- Commands keep it that a reference has one partner at most.
-use Rattle.std.proofs.Common.{◌≡◌, ◌⊎◌, inl, inr, ℕ, Bool, true, false, List, [], ◌∷◌, Option, Some, None, refl, sym, ap, subst, ◌∙◌}
-use Rattle.std.specs.Prelude.{not, ◌&&◌, ◌||◌, is_some, unwrap_or, if◌then◌else◌}
+use Rattle.std.proofs.Common.{◌≡◌, ◌⊎◌, inl, inr, Bool, true, false, Option, Some, None, refl, sym, ap, subst, ◌∙◌}
+use Rattle.std.specs.Prelude.{not, ◌&&◌, ◌||◌, unwrap_or, if◌then◌else◌}
 use Rattle.std.specs.Option.{option_map, option_map_or, option_and_then}
-use Rattle.std.specs.FinMap as maps
-use Rattle.std.specs.List.{list_any}
 use Rattle.ostore_schema_layout.specs.declared.schema.Schema.{Schema}
 use Rattle.ostore_schema_layout.specs.declared.schema.MemberDef.{MemberDef}
 use Rattle.ostore_schema_layout.specs.declared.schema.Inverse.{Inverse}
-use Rattle.ostore_schema_layout.specs.Lawful.{inverse_of, IsTwoSided, NamesBack, IsLawful}
+use Rattle.ostore_schema_layout.specs.Lawful.{inverse_of, IsLawful}
 use Rattle.ostore_graph_model.specs.declared.values.Name.{Name}
-use Rattle.ostore_graph_model.specs.declared.refusal.Refusal.{Refusal}
 use Rattle.ostore_graph_model.specs.declared.commands.Command.{Command}
 use Rattle.ostore_graph_model.specs.declared.commands.Command.TheVariants.{New, Find, Root, SetRoot, Get, Set, Follow, Delete, Insert, Remove, Members, Size, Append, Put, At, Bind, Look, Unbind, Index, Unindex, Query}
 use Rattle.ostore_graph_model.specs.declared.commands.Operand.TheVariants as operands
 use Rattle.ostore_graph_model.specs.Sets as sets
-use Rattle.ostore_graph_model.specs.Orders.{name_cmp, TypeMember, type_member_cmp, Pair, pair_cmp}
+use Rattle.ostore_graph_model.specs.Orders.{TypeMember, Pair, pair_cmp}
 use Rattle.ostore_graph_model.specs.Graph.{Graph}
-use Rattle.ostore_graph_model.specs.Links.{comes_first, member_of_inverse, pair_from, pair_at, inverse_at, other_member, def_of, is_first, is_ref_member, near_end, far_end, joins_from, joins_to, is_displaced, joined, goes_with}
+use Rattle.ostore_graph_model.specs.Links.{comes_first, member_of_inverse, pair_from, pair_at, inverse_at, other_member, def_of, is_first, is_ref_member, far_end, joins_from, joins_to, is_displaced, joined, goes_with}
 use Rattle.ostore_graph_model.specs.Deeds.{Vars, Stepped, bound_to}
-use Rattle.ostore_graph_model.specs.Step.{line_of, is_dangling, step}
+use Rattle.ostore_graph_model.specs.Step.{line_of, step}
 use Rattle.ostore_graph_model.specs.LiveGraphs.{HasOnePartner, LawOfOnePartner}
 use Rattle.ostore_graph_model.proofs.PassedLaws.{TaskMay, step_may}
 use Rattle.ostore_graph_model.proofs.LiveLaws.{in_retained, in_removed, new_or_old}

@@ -1,5 +1,5 @@
 -- A one-sided reference of one object of a heap is another.
-use Rattle.std.proofs.Common.{◌≡◌, ◌≢◌, ◌⊎◌, ℕ, ◌&&◌, ◌||◌, not, Bool, true, false, List, set, refl, sym, ap, ap₂, subst, ◌∙◌, Option, Some, None, inl, inr, true≢false}
+use Rattle.std.proofs.Common.{◌≡◌, ◌≢◌, ◌↔◌, ◌⊎◌, ℕ, ◌&&◌, ◌||◌, not, Bool, true, false, List, set, refl, sym, ap, ap₂, subst, ◌∙◌, Option, Some, None, inl, inr, true≢false}
 use Rattle.std.specs.List.{slice_get}
 use Rattle.std.specs.Option.{option_map}
 use Rattle.std.specs.Ordering.{eq_by_cmp}
@@ -56,13 +56,12 @@ good_by_codes schema heap now codes kind (Slot.Begins head) good = (λ some. cod
 
 -- ---- the change
 
--- the member of the object at an address is a one-sided reference, and leads to this pointer now
+-- the member of the object at an address is a reference, and leads to this pointer now
 pub record ChangesReference (schema : Schema) (heap now : Heap) (address member : ℕ) (tag : RowTag) (slots : List Slot) (def : MemberDef) (pointer : ℕ) : Type 0 where
   pub was : IsObject heap address tag slots
   pub is : now address ≡ Some (live_cell tag (Links.Object (set slots member (Slot.Refers pointer))))
   pub others : (other : ℕ) → other ≢ address → now other ≡ heap other
   pub defined : slice_get (members_of schema tag.code) member ≡ Some def
-  pub alone : def.inverse ≡ None
   pub target : TypeNo
   pub kind : def.kind ≡ kinds.Ref target
   pub before : ℕ
@@ -137,12 +136,13 @@ module _ (schema : Schema) (heap now : Heap) (address member : ℕ) (tag : RowTa
     after = typed_code now (set slots member (Slot.Refers pointer)) change.is;
     object = λ links e. (set slots member (Slot.Refers pointer), sym (same_Some _ _ (sym (ap (option_map (λ (c : HeapCell). c.links)) change.is) ∙ e)));
     codes = codes;
+    inverse = def.inverse;
     members = λ m also d slot has. elim (member_now m also d slot has) [
-      | inl own ↦ inr (inr (record { alone = ap (λ (x : MemberDef). x.inverse) own.1 ∙ change.alone; pointer = pointer; is = own.2 }))
+      | inl own ↦ inr (inr (record { sided = ap (λ (x : MemberDef). x.inverse) own.1; pointer = pointer; is = own.2 }))
       | inr was ↦ inl was.1
     ];
     kept = λ m also d slot has. elim (member_was m also d slot has) [
-      | inl own ↦ inr (record { alone = ap (λ (x : MemberDef). x.inverse) own.1 ∙ change.alone; pointer = change.before; is = own.2 })
+      | inl own ↦ inr (record { sided = ap (λ (x : MemberDef). x.inverse) own.1; pointer = change.before; is = own.2 })
       | inr stays ↦ inl stays
     ];
     pointers = λ m also d slot has. elim (member_now m also d slot has) [
@@ -150,6 +150,10 @@ module _ (schema : Schema) (heap now : Heap) (address member : ℕ) (tag : RowTa
       | inr was ↦ good_by_codes schema heap now codes d.kind slot ((keeps address).members m also d slot was.1)
     ];
   }
+
+  pub reference_sided : (keeps : (other : ℕ) → KeepsPointers schema heap other) (leads : LeadsToChunk heap (item_type def.kind) pointer) → (reference_changes keeps leads).inverse ≡ def.inverse
+  unfolding reference_changes
+  reference_sided keeps leads = refl
 
   -- ---- objects
 
@@ -177,12 +181,12 @@ module _ (schema : Schema) (heap now : Heap) (address member : ℕ) (tag : RowTa
   abbrev side : TypeMember
   side = record { ty = record { 0 = tag.code }; member = record { 0 = member } }
 
-  is_link : IsLink schema (record { ty = record { 0 = tag.code }; member = record { 0 = member } })
-  is_link = record {
+  is_link : comes_first (record { ty = record { 0 = tag.code }; member = record { 0 = member } }) def.inverse ≡ true → IsLink schema (record { ty = record { 0 = tag.code }; member = record { 0 = member } })
+  is_link first = record {
     def = def;
     defined = change.defined;
     sided = λ none. none-some change.target (sym none ∙ ap link_target change.kind);
-    first = ap (comes_first (record { ty = record { 0 = tag.code }; member = record { 0 = member } })) change.alone;
+    first = first;
   }
 
   -- a pair that is from the side of the object
@@ -272,6 +276,84 @@ module _ (schema : Schema) (heap now : Heap) (address member : ℕ) (tag : RowTa
             )
       ]
 
+  -- what is joined at a side now: the object at the reference's side with what it leads to, or what was joined
+  pub joins_edited : AreNamesOwn heap → (link : TypeMember) (x z : Name) → Joins schema now link x z
+      ↔ (((link ≡ record { ty = record { 0 = tag.code }; member = record { 0 = member } }) × (x ≡ name_in tag) × (pointer ≢ 0) × (name_at heap pointer ≡ Some z))
+      ⊎ ((link ≡ record { ty = record { 0 = tag.code }; member = record { 0 = member } } → x ≢ name_in tag) × Joins schema heap link x z))
+  joins_edited own link x z = (λ j. forth j, λ h. elim h [ inl here ↦ back_here here.0 here.1 here.2 here.3 | inr was ↦ back_was was.0 was.1 ])
+    where
+      forth : Joins schema now link x z
+          → ((link ≡ record { ty = record { 0 = tag.code }; member = record { 0 = member } }) × (x ≡ name_in tag) × (pointer ≢ 0) × (name_at heap pointer ≡ Some z))
+          ⊎ ((link ≡ record { ty = record { 0 = tag.code }; member = record { 0 = member } } → x ≢ name_in tag) × Joins schema heap link x z)
+      forth j = elim (cases_eq j.address address) [
+        | inl same ↦ elim (member_now link.member.0 j.tag j.def j.slot (subst (λ a. HasMember schema now a link.member.0 j.tag j.def j.slot) same j.has)) [
+          | inl here ↦
+              let tags = same_object now j.address address j.tag tag j.has.slots (set slots member (Slot.Refers pointer)) same j.has.object stands_now in
+              let leads : (pointer ≡ j.pointer) × (j.pointer ≢ 0) = subst (λ s. LeadsTo now j.tag.segment j.def.kind s j.pointer) here.2 j.leads in
+              inl (
+                ap₂ (λ (t n : ℕ). record { ty = record { 0 = t }; member = record { 0 = n } }) (sym j.ty ∙ ap (λ (t : RowTag). t.code) tags) here.0,
+                sym j.from ∙ ap name_in tags,
+                (λ none. leads.1 (sym leads.0 ∙ none)),
+                sym (names_by_tags heap now tags_stay pointer) ∙ ap (name_at now) leads.0 ∙ j.to,
+              )
+          | inr was ↦ inr (
+            λ e. absurd (was.0 (ap (λ (s : TypeMember). s.member.0) e)),
+            joined_with link x z j (subst (λ a. HasMember schema heap a link.member.0 j.tag j.def j.slot) (sym same) was.1),
+          )
+        ]
+        | inr apart ↦
+            let was = member_elsewhere schema now heap j.address link.member.0 j.tag j.def j.slot (sym (change.others j.address apart)) j.has in
+            inr (
+              λ e first. apart (named_object heap address j.address tag j.tag slots was.slots own change.was was.object (j.from ∙ first)),
+              joined_with link x z j was,
+            )
+      ]
+
+      back_here : link ≡ record { ty = record { 0 = tag.code }; member = record { 0 = member } } → x ≡ name_in tag → pointer ≢ 0 → name_at heap pointer ≡ Some z → Joins schema now link x z
+      back_here at first some named =
+          subst (λ l. Joins schema now l x z) (sym at) (subst (λ y. Joins schema now (record { ty = record { 0 = tag.code }; member = record { 0 = member } }) y z) (sym first) (record {
+            address = address;
+            tag = tag;
+            def = def;
+            slot = Slot.Refers pointer;
+            has = record { slots = set slots member (Slot.Refers pointer); object = stands_now; defined = change.defined; held = slot_now };
+            ty = refl;
+            from = refl;
+            pointer = pointer;
+            leads = (refl, some);
+            to = names_by_tags heap now tags_stay pointer ∙ named;
+          }))
+
+      back_was : (link ≡ record { ty = record { 0 = tag.code }; member = record { 0 = member } } → x ≢ name_in tag) → Joins schema heap link x z → Joins schema now link x z
+      back_was free j = elim (cases_eq j.address address) [
+        | inl same ↦ elim (member_was link.member.0 j.tag j.def j.slot (subst (λ a. HasMember schema heap a link.member.0 j.tag j.def j.slot) same j.has)) [
+          | inl here ↦
+              let tags = same_object heap j.address address j.tag tag j.has.slots slots same j.has.object change.was in
+              let at : link ≡ record { ty = record { 0 = tag.code }; member = record { 0 = member } } = ap₂ (λ (t n : ℕ). record { ty = record { 0 = t }; member = record { 0 = n } }) (sym j.ty ∙ ap (λ (t : RowTag). t.code) tags) here.0 in
+              absurd (free at (sym j.from ∙ ap name_in tags))
+          | inr stays ↦ joins_with link x z j (subst (λ a. HasMember schema now a link.member.0 j.tag j.def j.slot) (sym same) stays)
+        ]
+        | inr apart ↦ joins_with link x z j (member_elsewhere schema heap now j.address link.member.0 j.tag j.def j.slot (change.others j.address apart) j.has)
+      ]
+
+  -- at the second side of its link it shows no pair of its own
+  module _ (second : comes_first (record { ty = record { 0 = tag.code }; member = record { 0 = member } }) def.inverse ≡ false) (own : AreNamesOwn heap) (pairs : sets.FinSet pair_cmp) (shown : ShowsPairs schema heap pairs) where
+    no_link : IsLink schema (record { ty = record { 0 = tag.code }; member = record { 0 = member } }) → ⊥
+    no_link link =
+        let same : link.def ≡ def = same_Some link.def def (sym link.defined ∙ change.defined) in
+        true≢false (sym link.first ∙ ap (λ (d : MemberDef). comes_first (record { ty = record { 0 = tag.code }; member = record { 0 = member } }) d.inverse) same ∙ second)
+
+    pub pairs_stay : ShowsPairs schema now pairs
+    pairs_stay pair = (
+      λ e.
+          let has = (shown pair).0 e in
+          old_pair pair (ap not (false_from_ne_true (is_from (record { ty = record { 0 = tag.code }; member = record { 0 = member } }) (name_in tag) pair) (λ from. no_link (subst (IsLink schema) (from_parts (name_in tag) pair from).0 has.link)))) has,
+      λ has. elim (back_pair own pair has) [
+        | inl here ↦ absurd (no_link (subst (IsLink schema) here.0 has.link))
+        | inr was ↦ (shown pair).1 was.1
+      ],
+    )
+
   -- the reference leads nowhere
   module _ (none : pointer ≡ 0) (own : AreNamesOwn heap) (pairs : sets.FinSet pair_cmp) (shown : ShowsPairs schema heap pairs) where
     left : (pair : Pair) → sets.contains (parted_from pairs (record { ty = record { 0 = tag.code }; member = record { 0 = member } }) (name_in tag)) pair ≡ (sets.contains pairs pair && not (is_from (record { ty = record { 0 = tag.code }; member = record { 0 = member } }) (name_in tag) pair))
@@ -288,7 +370,7 @@ module _ (schema : Schema) (heap now : Heap) (address member : ℕ) (tag : RowTa
       ],
     )
 
-  module _ (y : Name) (some : pointer ≢ 0) (named : name_at heap pointer ≡ Some y) (own : AreNamesOwn heap) (pairs : sets.FinSet pair_cmp) (shown : ShowsPairs schema heap pairs) where
+  module _ (first : comes_first (record { ty = record { 0 = tag.code }; member = record { 0 = member } }) def.inverse ≡ true) (y : Name) (some : pointer ≢ 0) (named : name_at heap pointer ≡ Some y) (own : AreNamesOwn heap) (pairs : sets.FinSet pair_cmp) (shown : ShowsPairs schema heap pairs) where
     abbrev the_pair : Pair
     the_pair = record { link = record { ty = record { 0 = tag.code }; member = record { 0 = member } }; first = name_in tag; second = y }
 
@@ -301,7 +383,7 @@ module _ (schema : Schema) (heap now : Heap) (address member : ℕ) (tag : RowTa
 
     new_pair : HasPair schema now the_pair
     new_pair = record {
-      link = is_link;
+      link = is_link first;
       joins = record {
         address = address;
         tag = tag;

@@ -1,4 +1,4 @@
--- Each transaction of specs/Examples.antt and specs/FullGraphs.antt, command by command.
+-- Each transaction of specs/Examples.antt, FullGraphs.antt, RefusalOrders.antt and FullSets.antt, command by command.
 pub mod DisplacedPartners
 pub mod DeletedItem
 pub mod SetItems
@@ -10,3 +10,7 @@ pub mod PathQueries
 pub mod SerialsEnd
 pub mod RootsEnd
 pub mod IndexesWantInverses
+pub mod CollectionRefusals
+pub mod PartnersOfBoth
+pub mod FullSet
+pub mod FilledSet

@@ -1,13 +1,11 @@
 -- Transactions that ran one after the other, in a known order, have one history.
-use Rattle.std.proofs.Common.{◌≡◌, ℕ, zero, suc, ◌+◌, ◌-◌, ◌<◌, ◌≤◌, Bool, true, false, cond, List, [], ◌∷◌, map, length, get_or, refl, sym, ap, subst, ◌∙◌, arith}
-use Rattle.std.specs.Prelude.{All, AllPairs}
-use Rattle.std.proofs.lemmas.List.Elements.{All-head, All-tail, All-weaker}
-use Rattle.ostore_base.specs.declared.numbers.ClientNo.{ClientNo}
-use Rattle.ostore_graph_model.specs.declared.values.Reply.{Reply}
+use Rattle.std.proofs.Common.{◌≡◌, ℕ, suc, ◌+◌, ◌<◌, ◌≤◌, Bool, true, false, cond, List, [], ◌∷◌, map, length, get_or, refl, sym, ap, subst, ◌∙◌, arith}
+use Rattle.std.specs.Prelude.{All}
+use Rattle.std.proofs.lemmas.List.Elements.{All-head, All-tail}
 use Rattle.ostore_graph_model.specs.declared.commands.Script.{Script}
 use Rattle.ostore_graph_model.specs.declared.history.Committed.{Committed}
 use Rattle.ostore_graph_model.specs.Graph.{Graph}
-use Rattle.ostore_graph_model.specs.History.{updates, last_number, number_before, IsRight, IsLegalHistory, BeganAfter, IsSerial}
+use Rattle.ostore_graph_model.specs.History.{updates, last_number, number_before, IsRight, IsLegalHistory, IsSerial}
 use Rattle.ostore_graph_model.specs.LawsOfHistories.{named_by, LawOfSerialHistories}
 use Rattle.ostore_graph_model.proofs.HistoryJoins.{update_numbers}
 use Rattle.ostore_graph_model.proofs.HistoryGraphs.{same_kind, same_run}

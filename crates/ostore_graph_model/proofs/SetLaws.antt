@@ -1,6 +1,6 @@
 -- A one-sided set's collection is another: what the graph's pairs have of its side are its items, and its other pairs
 -- stay.
-use Rattle.std.proofs.Common.{◌≡◌, ◌↔◌, ◌⊎◌, ℕ, true, List, refl, sym, ap, subst, ◌∙◌, Some, None, inl, inr}
+use Rattle.std.proofs.Common.{◌≡◌, ◌≢◌, ◌↔◌, ◌⊎◌, ℕ, true, List, refl, sym, ap, subst, ◌∙◌, Some, inl, inr}
 use Rattle.std.specs.List.{slice_get, Contains}
 use Rattle.ostore_graph_model.specs.Sets as sets
 use Rattle.std.proofs.lemmas.Option.{same_Some, none-some}
@@ -11,7 +11,7 @@ use Rattle.ostore_schema_layout.specs.declared.schema.MemberKind.TheVariants as 
 use Rattle.ostore_schema_layout.specs.Numbers.{members_of}
 use Rattle.ostore_schema_layout.specs.Lawful.{link_target}
 use Rattle.ostore_graph_model.specs.declared.values.Name.{Name}
-use Rattle.ostore_graph_model.specs.Orders.{Pair, pair_cmp}
+use Rattle.ostore_graph_model.specs.Orders.{TypeMember, Pair, pair_cmp}
 use Rattle.ostore_graph_model.specs.Chains.{chunk_code, ChainLink, IsChain, entries_of, LeadsTo}
 use Rattle.ostore_graph_model.specs.Collections.{ChangesCollection}
 use Rattle.ostore_graph_model.specs.CollectionEdits.{entry_items, type_member}
@@ -40,7 +40,7 @@ items_lead_on heap segment def head chain linked pointer there = record { entrie
 module _ (schema : Schema) (heap now : Heap) (address member : ℕ) (tag : RowTag) (def : MemberDef) (slots : List Slot) (was is : CollectionHead) (chain after : List ChainLink)
     (change : ChangesCollection schema heap now address member tag def slots was is chain after)
     (chains : (other : ℕ) → KeepsChains schema heap other) (pointers : (other : ℕ) → KeepsPointers schema heap other) (items : (other : ℕ) → KeepsItems heap other)
-    (own : AreNamesOwn heap) (target : TypeNo) (kind : def.kind ≡ kinds.Set target) (alone : def.inverse ≡ None) where
+    (own : AreNamesOwn heap) (target : TypeNo) (kind : def.kind ≡ kinds.Set target) (first : comes_first (type_member tag member) def.inverse ≡ true) where
   -- what was joined with the object at the set
   joined_was : (x y : Name) → x ≡ name_in tag → Joins schema heap (type_member tag member) x y → (pointer : ℕ) × Contains (entry_items (entries_of chain)) pointer × (name_at heap pointer ≡ Some y)
   joined_was x y same j =
@@ -86,7 +86,7 @@ module _ (schema : Schema) (heap now : Heap) (address member : ℕ) (tag : RowTa
     def = def;
     defined = change.defined;
     sided = λ none. none-some target (sym none ∙ ap link_target kind);
-    first = ap (comes_first (type_member tag member)) alone;
+    first = first;
   }
 
   -- An item of the set now, by its name.
@@ -121,10 +121,41 @@ module _ (schema : Schema) (heap now : Heap) (address member : ℕ) (tag : RowTa
 
   -- the pairs from the set before
   pub was_paired : (pairs : sets.FinSet pair_cmp) → ShowsPairs schema heap pairs → (pair : Pair) → pair.link ≡ type_member tag member → pair.first ≡ name_in tag → (sets.contains pairs pair ≡ true) ↔ WasItem pair.second
-  was_paired pairs shown pair link first = (
-    λ e. joined_was pair.first pair.second first (subst (λ l. Joins schema heap l pair.first pair.second) link ((shown pair).0 e).joins),
+  was_paired pairs shown pair link starts = (
+    λ e. joined_was pair.first pair.second starts (subst (λ l. Joins schema heap l pair.first pair.second) link ((shown pair).0 e).joins),
     λ w. (shown pair).1 (record {
       link = subst (IsLink schema) (sym link) set_link;
-      joins = subst (λ l. Joins schema heap l pair.first pair.second) (sym link) (subst (λ x. Joins schema heap (type_member tag member) x pair.second) (sym first) (join_was pair.second w.0 w.1 w.2));
+      joins = subst (λ l. Joins schema heap l pair.first pair.second) (sym link) (subst (λ x. Joins schema heap (type_member tag member) x pair.second) (sym starts) (join_was pair.second w.0 w.1 w.2));
     }),
+  )
+
+-- What is joined at a side after a set is changed: the object at the set's side with its items, or what was joined.
+module _ (schema : Schema) (heap now : Heap) (address member : ℕ) (tag : RowTag) (def : MemberDef) (slots : List Slot) (was is : CollectionHead) (chain after : List ChainLink)
+    (change : ChangesCollection schema heap now address member tag def slots was is chain after)
+    (chains : (other : ℕ) → KeepsChains schema heap other) (pointers : (other : ℕ) → KeepsPointers schema heap other) (items : (other : ℕ) → KeepsItems heap other)
+    (own : AreNamesOwn heap) where
+  pub joins_changed : (link : TypeMember) (x y : Name) → Joins schema now link x y
+      ↔ (((link ≡ type_member tag member) × (x ≡ name_in tag) × ((item : ℕ) × Contains (entry_items (entries_of after)) item × (name_at now item ≡ Some y)))
+      ⊎ ((link ≡ type_member tag member → x ≢ name_in tag) × Joins schema heap link x y))
+  joins_changed link x y = (
+    λ j. elim (joins_back schema heap now address member tag def slots was is chain after change chains pointers items own link x y j) [
+      | inl this ↦ inl (this.0, this.1, (this.2.0, leads_items now tag.segment def is after change.relinked this.2.0 this.2.1, this.2.2))
+      | inr old ↦ inr (old.0, old.1)
+    ],
+    λ h. elim h [
+      | inl this ↦
+          subst (λ l. Joins schema now l x y) (sym this.0) (subst (λ z. Joins schema now (type_member tag member) z y) (sym this.1) (record {
+            address = address;
+            tag = tag;
+            def = def;
+            slot = Slot.Begins is;
+            has = has schema heap now address member tag def slots was is chain after change;
+            ty = refl;
+            from = refl;
+            pointer = this.2.0;
+            leads = items_lead_on now tag.segment def is after change.relinked this.2.0 this.2.1;
+            to = this.2.2;
+          }))
+      | inr old ↦ joins_forth schema heap now address member tag def slots was is chain after change chains pointers items own link x y old.0 old.1
+    ],
   )

@@ -35,7 +35,7 @@ use Rattle.ostore_graph_model.proofs.PartnerLaws.{side_contains}
 
 -- ---- the inverse of a member
 
-lawful_at : (schema : Schema) → IsLawful schema → (ty : TypeNo) (number : MemberNo) (def : MemberDef) → member_at schema ty number ≡ Some def → IsLawfulMember schema ty number def
+pub lawful_at : (schema : Schema) → IsLawful schema → (ty : TypeNo) (number : MemberNo) (def : MemberDef) → member_at schema ty number ≡ Some def → IsLawfulMember schema ty number def
 lawful_at schema lawful ty number def e =
     let at = member_stands schema ty number def e in
     let s = stands schema ty at.ty at.type_there in

@@ -1,12 +1,11 @@
 -- What holds of a command's outcome, by what holds of its refusals and of its effect.
-use Rattle.std.proofs.Common.{◌≡◌, ℕ, ◌+◌, ◌≤◌, ◌<◌, Bool, true, false, List, [], ◌∷◌, Option, Some, None, refl, sym, ap, subst, ◌∙◌, arith, cond}
+use Rattle.std.proofs.Common.{◌≡◌, ℕ, ◌+◌, ◌≤◌, Bool, true, false, List, [], ◌∷◌, Option, Some, None, refl, sym, ap, subst, ◌∙◌, arith, cond}
 use Rattle.std.specs.Prelude.{not, ◌&&◌, is_some, nat_le, unwrap_or}
 use Rattle.std.specs.FinMap as maps
 use Rattle.std.specs.Ordering.{nat_cmp, eq_by_cmp}
 use Rattle.std.specs.Cmp.{nat_cmp_total}
 use Rattle.std.proofs.lemmas.Bool.{le-leb, leb-true, lt-leb}
 use Rattle.ostore_schema_layout.specs.declared.schema.Schema.{Schema}
-use Rattle.ostore_schema_layout.specs.declared.schema.MemberKind.{MemberKind}
 use Rattle.ostore_graph_model.specs.declared.values.Name.{Name}
 use Rattle.ostore_graph_model.specs.declared.values.Reply.{Reply}
 use Rattle.ostore_graph_model.specs.declared.values.Reply.TheVariants as replies
@@ -14,15 +13,14 @@ use Rattle.ostore_graph_model.specs.declared.refusal.Refusal.{Refusal}
 use Rattle.ostore_graph_model.specs.declared.commands.Command.{Command}
 use Rattle.ostore_graph_model.specs.declared.commands.Command.TheVariants.{New, Find, Root, SetRoot, Get, Set, Follow, Delete, Insert, Remove, Members, Size, Append, Put, At, Bind, Look, Unbind, Index, Unindex, Query}
 use Rattle.ostore_graph_model.specs.declared.commands.Operand.TheVariants as operands
-use Rattle.ostore_graph_model.specs.declared.commands.Txn.{Txn}
 use Rattle.ostore_graph_model.specs.Graph.{Graph, Object, is_drawn, is_live, is_dead, last_serial}
 use Rattle.ostore_graph_model.specs.Deeds.{Vars, Stepped, Deed, LiveMember, refused, refused_or, live_member, no_name, bound_to}
 use Rattle.ostore_graph_model.specs.Deeds.Objects.{next_name, new_object, with_new, drawn, without_object}
 use Rattle.ostore_graph_model.specs.Kinds.{no_type}
 use Rattle.ostore_schema_layout.specs.Numbers.{type_named}
 use Rattle.ostore_graph_model.proofs.OrderLaws.{tied_same, same_tied, name_cmp-IsTotalOrder}
-use Rattle.ostore_graph_model.specs.Step.{Task, Line, line_of, member_gives, task_gives, refusal_of, step, Steps}
-use Rattle.ostore_graph_model.specs.Transaction.{Ran, run_from, transaction, Runs, Answers}
+use Rattle.ostore_graph_model.specs.Step.{Task, line_of, member_gives, task_gives, refusal_of, step}
+use Rattle.ostore_graph_model.specs.Transaction.{Ran, run_from, Answers}
 use Rattle.ostore_graph_model.specs.LawsOfSteps.{LawOfRefusals, LawOfReads, LawOfReadTransactions, LawOfNewNames, LawOfDrawnNames, LawOfDeletedNames, LawOfAnswers}
 
 -- the effect of a task has P

@@ -1,6 +1,6 @@
--- What `append`, `put`, `bind` and `unbind`, and in a one-sided set `insert` and `remove`, come to on the pages, and
--- the laws that they give the graph that the command makes.
-use Rattle.std.specs.Prelude.{◌≡◌, ◌≢◌, ◌↔◌, ◌⊎◌, ◌<◌, ℕ, IsTrue, List, [], ◌∷◌, ◌++◌, length, map, All, Any, Some, None, slice_set}
+-- What `append`, `put`, `bind` and `unbind`, and in a set `insert` and `remove`, come to on the pages, and the laws that
+-- they give the graph that the command makes; of a set with an inverse, one side at a time.
+use Rattle.std.specs.Prelude.{◌≡◌, ◌≢◌, ◌↔◌, ◌⊎◌, ◌<◌, ℕ, IsTrue, List, [], ◌∷◌, ◌++◌, length, map, All, Any, Some, None, slice_set, false}
 use Rattle.std.specs.List.{Contains}
 use Rattle.std.specs.FinMap as maps
 use Rattle.ostore_graph_model.specs.Sets as sets
@@ -10,11 +10,12 @@ use Rattle.ostore_page_tags.specs.Rules.{is_type_code}
 use Rattle.ostore_schema_layout.specs.declared.schema.Schema.{Schema}
 use Rattle.ostore_schema_layout.specs.declared.schema.TypeNo.{TypeNo}
 use Rattle.ostore_schema_layout.specs.declared.schema.MemberDef.{MemberDef}
+use Rattle.ostore_schema_layout.specs.declared.schema.Inverse.{Inverse}
 use Rattle.ostore_schema_layout.specs.declared.schema.MemberKind.TheVariants as kinds
 use Rattle.ostore_graph_model.specs.declared.commands.Key.{Key}
 use Rattle.ostore_graph_model.specs.Orders.{TypeMember, ObjectMember}
 use Rattle.ostore_graph_model.specs.Graph.{Graph, list_at}
-use Rattle.ostore_graph_model.specs.Links.{pair_at}
+use Rattle.ostore_graph_model.specs.Links.{comes_first, pair_at}
 use Rattle.ostore_graph_model.specs.Deeds.{LiveMember, member_at_type}
 use Rattle.ostore_graph_model.specs.Deeds.Collections.{items_of, with_items, bindings_of, with_bindings}
 use Rattle.ostore_graph_model.specs.Deeds.References.{with_joined}
@@ -33,9 +34,8 @@ use Rattle.ostore_graph_model.specs.LawsOfMeaning.{HoldGraph, LeavesGraph}
 
 -- ---- the edit
 
--- The collection of a member had these entries before, and has these after, which are as they should be. The member
--- is no side of a two-sided link. The object's own values, all other cells, roots and counters stay, and the cells
--- that changed are written as their codes ask.
+-- The collection of a member had these entries before, and has these after, which are as they should be. The object's
+-- own values, all other cells, roots and counters stay, and the cells that changed are written as their codes ask.
 pub record WritesCollection (schema : Schema) (old new : List PageImage) (address member : ℕ) (tag : RowTag) (def : MemberDef) (before after : List ChunkEntry) : Type 0 where
   pub slots : List Slot
   pub was : CollectionHead
@@ -46,7 +46,6 @@ pub record WritesCollection (schema : Schema) (old new : List PageImage) (addres
   pub before_is : entries_of chain ≡ before
   pub after_is : entries_of links ≡ after
   pub good : IsGoodNow schema (heap_of schema new) def is links
-  pub alone : def.inverse ≡ None
   pub values : values_of schema new address ≡ values_of schema old address
   pub cells : (other : ℕ) → other ≢ address → (IsIn other links → ⊥) → cell_at new other ≡ cell_at old other
   pub written : (other : ℕ) (cell : PlacedCell) → cell_at new other ≡ Some cell → (other ≡ address) ⊎ IsIn other links → IsTrue (is_written schema cell)
@@ -127,7 +126,7 @@ abbrev pub LawOfInserts : Type 0
 LawOfInserts =
     (schema : Schema) (old new : List PageImage) (address member : ℕ) (tag : RowTag) (def : MemberDef) (target : TypeNo) (before after : List ChunkEntry) (pointer : ℕ) (to : PlacedCell) (graph : Graph) (at : LiveMember)
     → HoldGraph schema old graph → WritesCollection schema old new address member tag def before after
-    → def.kind ≡ kinds.Set target → cell_at old pointer ≡ Some to
+    → def.kind ≡ kinds.Set target → def.inverse ≡ None → cell_at old pointer ≡ Some to
     → ((item : ℕ) → Contains (entry_items after) item ↔ ((item ≡ pointer) ⊎ Contains (entry_items before) item))
     → member_at_type schema (name_in tag) (type_member tag member) ≡ Some at
     → LeavesGraph schema old new (with_joined schema graph at (name_of to))
@@ -137,7 +136,35 @@ abbrev pub LawOfRemoves : Type 0
 LawOfRemoves =
     (schema : Schema) (old new : List PageImage) (address member : ℕ) (tag : RowTag) (def : MemberDef) (target : TypeNo) (before after : List ChunkEntry) (pointer : ℕ) (to : PlacedCell) (graph : Graph) (at : LiveMember)
     → HoldGraph schema old graph → WritesCollection schema old new address member tag def before after
-    → def.kind ≡ kinds.Set target → cell_at old pointer ≡ Some to → IsTrue (is_type_code to.code)
+    → def.kind ≡ kinds.Set target → def.inverse ≡ None → cell_at old pointer ≡ Some to → IsTrue (is_type_code to.code)
     → ((item : ℕ) → Contains (entry_items after) item ↔ ((item ≢ pointer) × Contains (entry_items before) item))
     → member_at_type schema (name_in tag) (type_member tag member) ≡ Some at
     → LeavesGraph schema old new (record graph { pairs = sets.remove graph.pairs (pair_at schema at.at at.owner (name_of to)) })
+
+-- ---- two-sided sets. The other side changes in the same command, at whose end the links are good again.
+
+-- an item more at the side that comes first joins the two objects
+abbrev pub LawOfFirstSideInserts : Type 0
+LawOfFirstSideInserts =
+    (schema : Schema) (old new : List PageImage) (address member : ℕ) (tag : RowTag) (def : MemberDef) (target : TypeNo) (inverse : Inverse) (before after : List ChunkEntry) (pointer : ℕ) (to : PlacedCell) (graph : Graph)
+    → HoldGraph schema old graph → WritesCollection schema old new address member tag def before after
+    → def.kind ≡ kinds.Set target → def.inverse ≡ Some inverse → IsTrue (comes_first (type_member tag member) (Some inverse)) → cell_at old pointer ≡ Some to
+    → ((item : ℕ) → Contains (entry_items after) item ↔ ((item ≡ pointer) ⊎ Contains (entry_items before) item))
+    → HoldGraph schema new (record graph { pairs = sets.insert graph.pairs (record { link = type_member tag member; first = name_in tag; second = name_of to }) })
+
+-- an item less there parts them
+abbrev pub LawOfFirstSideRemoves : Type 0
+LawOfFirstSideRemoves =
+    (schema : Schema) (old new : List PageImage) (address member : ℕ) (tag : RowTag) (def : MemberDef) (target : TypeNo) (inverse : Inverse) (before after : List ChunkEntry) (pointer : ℕ) (to : PlacedCell) (graph : Graph)
+    → HoldGraph schema old graph → WritesCollection schema old new address member tag def before after
+    → def.kind ≡ kinds.Set target → def.inverse ≡ Some inverse → IsTrue (comes_first (type_member tag member) (Some inverse)) → cell_at old pointer ≡ Some to → IsTrue (is_type_code to.code)
+    → ((item : ℕ) → Contains (entry_items after) item ↔ ((item ≢ pointer) × Contains (entry_items before) item))
+    → HoldGraph schema new (record graph { pairs = sets.remove graph.pairs (record { link = type_member tag member; first = name_in tag; second = name_of to }) })
+
+-- what changes at the side that comes second leaves the graph
+abbrev pub LawOfSecondSides : Type 0
+LawOfSecondSides =
+    (schema : Schema) (old new : List PageImage) (address member : ℕ) (tag : RowTag) (def : MemberDef) (target : TypeNo) (inverse : Inverse) (before after : List ChunkEntry) (graph : Graph)
+    → HoldGraph schema old graph → WritesCollection schema old new address member tag def before after
+    → def.kind ≡ kinds.Set target → def.inverse ≡ Some inverse → comes_first (type_member tag member) (Some inverse) ≡ false
+    → HoldGraph schema new graph

@@ -1,13 +1,11 @@
 -- Commands on an empty graph, with their replies.
-use Rattle.std.specs.Prelude.{◌≡◌, ℕ, Bool, true, false, List, [], ◌∷◌, Option, Some, None, codes, pos}
+use Rattle.std.specs.Prelude.{ℕ, Bool, true, false, List, [], ◌∷◌, Some, None, codes, pos}
 use Rattle.std.specs.FinMap as maps
 use Rattle.ostore_schema_layout.specs.declared.schema.Schema.{Schema}
 use Rattle.ostore_schema_layout.specs.declared.schema.TypeNo.{TypeNo}
-use Rattle.ostore_schema_layout.specs.declared.schema.TypeDef.{TypeDef}
 use Rattle.ostore_schema_layout.specs.declared.schema.MemberDef.{MemberDef}
 use Rattle.ostore_schema_layout.specs.declared.schema.MemberKind.{MemberKind}
 use Rattle.ostore_schema_layout.specs.declared.schema.MemberKind.TheVariants as kinds
-use Rattle.ostore_schema_layout.specs.declared.schema.Inverse.{Inverse}
 use Rattle.ostore_graph_model.specs.declared.values.Name.{Name}
 use Rattle.ostore_graph_model.specs.declared.values.Value.TheVariants as values
 use Rattle.ostore_graph_model.specs.declared.values.Reply.{Reply}

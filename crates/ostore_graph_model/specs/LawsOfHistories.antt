@@ -1,5 +1,5 @@
 -- Laws of legal histories: what may be added at their end, and that they determine their graphs.
-use Rattle.std.specs.Prelude.{◌≡◌, ◌≢◌, ℕ, ◌+◌, ◌<◌, ◌≤◌, Bool, true, false, List, [], ◌∷◌, ◌++◌, map, All, Some}
+use Rattle.std.specs.Prelude.{◌≡◌, ◌≢◌, ℕ, ◌+◌, ◌<◌, ◌≤◌, true, false, List, [], ◌∷◌, ◌++◌, map, All, Some}
 use Rattle.ostore_base.specs.declared.numbers.ClientNo.{ClientNo}
 use Rattle.ostore_graph_model.specs.declared.commands.Txn.{Txn}
 use Rattle.ostore_graph_model.specs.declared.commands.Script.{Script}

@@ -1,6 +1,6 @@
 -- Laws of what pages mean: that it is one graph, and what small edits make of it. A law of an edit speaks of the
 -- rules' first two groups, since between the edits of one command the other two may fail.
-use Rattle.std.specs.Prelude.{◌≡◌, ◌≢◌, ◌≤◌, ℕ, ◌+◌, ℤ, IsTrue, List, Some}
+use Rattle.std.specs.Prelude.{◌≡◌, ◌≢◌, ◌≤◌, ℕ, ◌+◌, ℤ, true, false, IsTrue, List, Some, None}
 use Rattle.std.specs.List.{slice_get}
 use Rattle.std.specs.FinMap as maps
 use Rattle.ostore_graph_model.specs.Sets as sets
@@ -11,11 +11,12 @@ use Rattle.ostore_text_words.specs.Words.{is_identifier}
 use Rattle.ostore_schema_layout.specs.declared.schema.Schema.{Schema}
 use Rattle.ostore_schema_layout.specs.declared.schema.TypeDef.{TypeDef}
 use Rattle.ostore_schema_layout.specs.declared.schema.TypeNo.{TypeNo}
+use Rattle.ostore_schema_layout.specs.declared.schema.Inverse.{Inverse}
 use Rattle.ostore_schema_layout.specs.declared.layouts.Place.{Place}
 use Rattle.ostore_schema_layout.specs.Cells.{cell_size}
 use Rattle.ostore_graph_model.specs.declared.values.Scalar.TheVariants as scalars
 use Rattle.ostore_graph_model.specs.Graph.{Graph, Object}
-use Rattle.ostore_graph_model.specs.Links.{parted}
+use Rattle.ostore_graph_model.specs.Links.{comes_first, pair_at, parted}
 use Rattle.ostore_graph_model.specs.Deeds.{LiveMember, member_at_type}
 use Rattle.ostore_graph_model.specs.Deeds.Objects.{new_object, with_new, with_held}
 use Rattle.ostore_graph_model.specs.Deeds.References.{with_joined}
@@ -76,7 +77,7 @@ LawOfTexts =
 abbrev pub LawOfReferences : Type 0
 LawOfReferences =
     (schema : Schema) (old new : List PageImage) (address member : ℕ) (cell : PlacedCell) (place : Place) (target : TypeNo) (pointer : ℕ) (to : PlacedCell) (graph : Graph) (at : LiveMember)
-    → HoldGraph schema old graph → WritesRef schema old new address member cell place target pointer
+    → HoldGraph schema old graph → (write : WritesRef schema old new address member cell place target pointer) → write.def.inverse ≡ None
     → pointer ≢ 0 → cell_at old pointer ≡ Some to → IsRowOf schema (heap_of schema old) target.0 pointer
     → member_at_type schema (name_of cell) (member_of cell member) ≡ Some at
     → LeavesGraph schema old new (with_joined schema graph at (name_of to))
@@ -85,9 +86,36 @@ LawOfReferences =
 abbrev pub LawOfNullReferences : Type 0
 LawOfNullReferences =
     (schema : Schema) (old new : List PageImage) (address member : ℕ) (cell : PlacedCell) (place : Place) (target : TypeNo) (graph : Graph) (at : LiveMember)
-    → HoldGraph schema old graph → WritesRef schema old new address member cell place target 0
+    → HoldGraph schema old graph → (write : WritesRef schema old new address member cell place target 0) → write.def.inverse ≡ None
     → member_at_type schema (name_of cell) (member_of cell member) ≡ Some at
     → LeavesGraph schema old new (record graph { pairs = parted schema at.at at.owner graph.pairs })
+
+-- A reference of a two-sided link at the side that comes first joins the object with the row's name, and with nothing
+-- else that is seen from there. The other side changes in the same command, at whose end the links are good again.
+abbrev pub LawOfFirstSideReferences : Type 0
+LawOfFirstSideReferences =
+    (schema : Schema) (old new : List PageImage) (address member : ℕ) (cell : PlacedCell) (place : Place) (target : TypeNo) (pointer : ℕ) (inverse : Inverse) (to : PlacedCell) (graph : Graph)
+    → HoldGraph schema old graph → (write : WritesRef schema old new address member cell place target pointer)
+    → write.def.inverse ≡ Some inverse → comes_first (member_of cell member) (Some inverse) ≡ true
+    → pointer ≢ 0 → cell_at old pointer ≡ Some to → IsRowOf schema (heap_of schema old) target.0 pointer
+    → HoldGraph schema new (record graph { pairs = sets.insert (parted schema (member_of cell member) (name_of cell) graph.pairs) (pair_at schema (member_of cell member) (name_of cell) (name_of to)) })
+
+-- One that is null there parts the object from what it led to.
+abbrev pub LawOfFirstSideNulls : Type 0
+LawOfFirstSideNulls =
+    (schema : Schema) (old new : List PageImage) (address member : ℕ) (cell : PlacedCell) (place : Place) (target : TypeNo) (inverse : Inverse) (graph : Graph)
+    → HoldGraph schema old graph → (write : WritesRef schema old new address member cell place target 0)
+    → write.def.inverse ≡ Some inverse → comes_first (member_of cell member) (Some inverse) ≡ true
+    → HoldGraph schema new (record graph { pairs = parted schema (member_of cell member) (name_of cell) graph.pairs })
+
+-- A reference at the side that comes second leaves the graph, wherever it leads among the rows of its type.
+abbrev pub LawOfSecondSideReferences : Type 0
+LawOfSecondSideReferences =
+    (schema : Schema) (old new : List PageImage) (address member : ℕ) (cell : PlacedCell) (place : Place) (target : TypeNo) (pointer : ℕ) (inverse : Inverse) (graph : Graph)
+    → HoldGraph schema old graph → (write : WritesRef schema old new address member cell place target pointer)
+    → write.def.inverse ≡ Some inverse → comes_first (member_of cell member) (Some inverse) ≡ false
+    → (pointer ≢ 0 → IsRowOf schema (heap_of schema old) target.0 pointer)
+    → HoldGraph schema new graph
 
 -- ---- an object is made
 

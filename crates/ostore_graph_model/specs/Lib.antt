@@ -17,6 +17,8 @@ pub mod LawsOfHistories
 pub mod Growth
 pub mod Examples
 pub mod FullGraphs
+pub mod RefusalOrders
+pub mod FullSets
 -- What a list of pages says: cells, values, what leads on, and who owns it.
 pub mod Limits
 pub mod Addresses
@@ -40,5 +42,7 @@ pub mod LawsOfMeaning
 pub mod LawsOfCells
 pub mod CollectionEdits
 pub mod LawsOfLinks
+pub mod LawsOfBothSides
 pub mod LawsOfIndexes
 pub mod LawsOfFreshPages
+pub mod LawsOfGraphs

@@ -1,7 +1,7 @@
 -- Links and *Side*. A link is a reference or a set without inverse, or two that name each other as inverses; it
 -- goes by the member that comes first in the schema's text. What a member of a link shows of an object are its
 -- partners in the link's pairs.
-use Rattle.std.specs.Prelude.{◌≡◌, ◌≢◌, ℕ, Bool, true, false, IsTrue, not, ◌&&◌, ◌||◌, is_some, if◌then◌else◌, List, map, filter, Option, Some, None}
+use Rattle.std.specs.Prelude.{◌≡◌, ◌≢◌, Bool, true, false, IsTrue, not, ◌&&◌, ◌||◌, is_some, if◌then◌else◌, map, filter, Option, Some, None}
 use Rattle.std.specs.Option.{option_map, option_and_then, option_map_or}
 use Rattle.std.specs.Ordering.{eq_by_cmp, is_lt}
 use Rattle.ostore_schema_layout.specs.declared.schema.Schema.{Schema}

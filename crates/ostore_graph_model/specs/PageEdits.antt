@@ -1,6 +1,6 @@
 -- What is done to a list of pages, one small edit at a time. The edits of one page's cells are those of the
 -- page's own layer; here they are said of addresses.
-use Rattle.std.specs.Prelude.{◌≡◌, ◌≢◌, ◌↔◌, ◌⊎◌, ◌<◌, ◌≤◌, ℕ, ◌+◌, ◌-◌, ◌*◌, ◌^◌, ℤ, true, List, [], ◌∷◌, ◌++◌, FitsSigned, IsTrue, length, replicate, None, Some, slice_set}
+use Rattle.std.specs.Prelude.{◌≡◌, ◌≢◌, ◌↔◌, ◌⊎◌, ◌<◌, ◌≤◌, ℕ, ◌+◌, ◌-◌, ◌*◌, ◌^◌, ℤ, true, List, [], ◌∷◌, ◌++◌, FitsSigned, IsTrue, length, replicate, Some, slice_set}
 use Rattle.std.specs.Int.{w64}
 use Rattle.std.specs.List.{slice_get, Contains}
 use Rattle.std.specs.Str.{is_utf8}
@@ -104,13 +104,12 @@ pub record WritesText (schema : Schema) (old new : List PageImage) (address memb
   pub utf8 : IsTrue (is_utf8 text)
   pub edits : EditsAt old new address (replaced place.offset (stored_text max text) cell.bytes)
 
--- a one-sided reference is another pointer
+-- a reference is another pointer
 pub record WritesRef (schema : Schema) (old new : List PageImage) (address member : ℕ) (cell : PlacedCell) (place : Place) (target : TypeNo) (pointer : ℕ) : Type 0 where
   pub has : HasPlace schema old address member cell place
   pub kind : place.kind ≡ kinds.Ref target
   pub def : MemberDef
   pub defined : slice_get (members_of schema cell.code) member ≡ Some def
-  pub alone : def.inverse ≡ None
   pub fits : pointer < 256 ^ 4
   pub edits : EditsAt old new address (with_number 4 place.offset pointer cell.bytes)
 

@@ -1,5 +1,5 @@
 -- *Path value* and *Query answer*: what an object leads to by references, and which members of a set answer.
-use Rattle.std.specs.Prelude.{ℕ, Bool, true, false, List, [], ◌∷◌, filter, find, slice_get, Option, Some, None}
+use Rattle.std.specs.Prelude.{Bool, false, List, [], ◌∷◌, filter, find, slice_get, Option, None}
 use Rattle.std.specs.declared.cmp.Ordering.{Ordering}
 use Rattle.std.specs.Option.{option_map_or, option_and_then}
 use Rattle.std.specs.Ordering.{int_cmp, is_eq, is_lt, is_le, is_gt, is_ge}
@@ -14,7 +14,7 @@ use Rattle.ostore_graph_model.specs.declared.commands.Key.TheVariants as keys
 use Rattle.ostore_graph_model.specs.declared.commands.Op.{Op}
 use Rattle.ostore_graph_model.specs.declared.commands.Op.TheVariants as ops
 use Rattle.ostore_graph_model.specs.Sets as sets
-use Rattle.ostore_graph_model.specs.Orders.{TypeMember, text_cmp, name_cmp}
+use Rattle.ostore_graph_model.specs.Orders.{TypeMember, text_cmp}
 use Rattle.ostore_graph_model.specs.Graph.{Graph, Object, is_live}
 use Rattle.ostore_graph_model.specs.Links.{side}
 

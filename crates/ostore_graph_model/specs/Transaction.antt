@@ -6,7 +6,7 @@ use Rattle.ostore_graph_model.specs.declared.values.Reply.{Reply}
 use Rattle.ostore_graph_model.specs.declared.commands.Command.{Command}
 use Rattle.ostore_graph_model.specs.declared.commands.Txn.{Txn}
 use Rattle.ostore_graph_model.specs.Graph.{Graph}
-use Rattle.ostore_graph_model.specs.Deeds.{Vars, Stepped}
+use Rattle.ostore_graph_model.specs.Deeds.{Vars}
 use Rattle.ostore_graph_model.specs.Step.{step, Steps}
 
 -- the replies of commands, in order, and the graph after them

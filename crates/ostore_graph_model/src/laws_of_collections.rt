@@ -4,6 +4,7 @@
 ghost use Rattle.ostore_graph_model.specs.Collections.{LawOfCollections};
 ghost use Rattle.ostore_graph_model.specs.CollectionEdits.{LawOfAppends, LawOfPuts, LawOfBinds, LawOfUnbinds};
 ghost use Rattle.ostore_graph_model.specs.CollectionEdits.{LawOfInserts, LawOfRemoves, LawOfListSizes};
+ghost use Rattle.ostore_graph_model.specs.CollectionEdits.{LawOfFirstSideInserts, LawOfFirstSideRemoves, LawOfSecondSides};
 
 /// A collection that is as it should be after its change leaves a good heap: rules 7 to 10 hold again, but for the
 /// bytes of single cells.
@@ -44,4 +45,20 @@ pub fn item_is_inserted()
 /// An item less in a one-sided set: what `remove` makes.
 pub fn item_is_removed()
     ensures { LawOfRemoves }
+{}
+
+/// An item more in a set at the first side of a two-sided link joins the two objects. The other side changes in
+/// the same command, at whose end the links are good again.
+pub fn item_is_inserted_first()
+    ensures { LawOfFirstSideInserts }
+{}
+
+/// An item less there parts them.
+pub fn item_is_removed_first()
+    ensures { LawOfFirstSideRemoves }
+{}
+
+/// What changes in a set at the second side of its link leaves the graph.
+pub fn second_side_is_changed()
+    ensures { LawOfSecondSides }
 {}

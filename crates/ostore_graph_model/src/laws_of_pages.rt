@@ -1,13 +1,19 @@
 //! Laws of what pages mean, each the contract of a function that does nothing. A caller who needs a law
 //! calls its function.
 
+ghost use Rattle.std.specs.Prelude.{ℕ, ◌<◌, slice_index};
 ghost use Rattle.ostore_graph_model.specs.LawsOfMeaning.{LawOfOneGraph, LawOfSomeGraph, LawOfNoIndexes};
 ghost use Rattle.ostore_graph_model.specs.LawsOfMeaning.{LawOfInts, LawOfTexts, LawOfReferences, LawOfNullReferences, LawOfNewObjects};
+ghost use Rattle.ostore_graph_model.specs.LawsOfMeaning.{LawOfFirstSideReferences, LawOfFirstSideNulls, LawOfSecondSideReferences};
 ghost use Rattle.ostore_graph_model.specs.LawsOfMeaning.{LawOfTakenPages, LawOfSameReading};
 ghost use Rattle.ostore_graph_model.specs.LawsOfMeaning.{LawOfBoundRoots, LawOfUnboundRoots};
 ghost use Rattle.ostore_graph_model.specs.LawsOfFreshPages.{LawOfFreshPages};
+ghost use Rattle.ostore_graph_model.specs.LawsOfGraphs.{AreBytes, LawOfGraphsOfSchema};
 ghost use Rattle.ostore_graph_model.specs.LawsOfLinks.{LawOfFirstSides, LawOfSides};
+ghost use Rattle.ostore_graph_model.specs.LawsOfBothSides.{LawOfReferenceSides, LawOfSetSides, LawOfGoodLinks, LawOfJoining};
 ghost use Rattle.ostore_graph_model.specs.LawsOfIndexes.{LawOfUndeclaredIndexes, LawOfIndexOrder};
+
+use ostore_base::PageImage;
 
 /// Pages stand for one graph at most.
 pub fn graph_is_one()
@@ -47,6 +53,23 @@ pub fn reference_is_cleared()
     ensures { LawOfNullReferences }
 {}
 
+/// A reference of a two-sided link, at the side that comes first, joins the object with what it leads to, and with
+/// nothing else that is seen from there. The other side changes in the same command, at whose end the links are good
+/// again.
+pub fn first_side_is_written()
+    ensures { LawOfFirstSideReferences }
+{}
+
+/// One that is null there parts the object from what it led to.
+pub fn first_side_is_cleared()
+    ensures { LawOfFirstSideNulls }
+{}
+
+/// A reference at the side that comes second leaves the graph.
+pub fn second_side_is_written()
+    ensures { LawOfSecondSideReferences }
+{}
+
 /// A serial that is drawn and a cell of zeros with it leave good pages, which stand for what `new` makes of
 /// the graph.
 pub fn object_is_made()
@@ -73,6 +96,28 @@ pub fn same_is_read()
     ensures { LawOfSameReading }
 {}
 
+/// The graph for which valid pages stand is one of their schema: all of `IsGraph` holds of it. Asked of the pages is
+/// that they hold bytes, as images do (`images_have_bytes`).
+pub fn graph_is_of_schema()
+    ensures { LawOfGraphsOfSchema }
+{}
+
+// What a slice of bytes has are numbers below 256.
+fn slice_has_bytes(bytes: &[u8])
+    ensures { (k : ℕ) → slice_index bytes.now k < 256 }
+{
+    let _count = bytes.len();
+}
+
+/// What a list of images holds are bytes.
+pub fn images_have_bytes(images: &[PageImage])
+    ensures { AreBytes images.now }
+{
+    for image in images.iter() {
+        slice_has_bytes(&image.bytes);
+    }
+}
+
 /// A fresh list of pages is valid, and stands for the empty graph.
 pub fn fresh_pages_are_empty()
     ensures { LawOfFreshPages }
@@ -91,6 +136,30 @@ pub fn each_side_shows_pairs()
 /// Where no collection of a schema has an inverse, valid pages stand for a graph without indexes.
 pub fn no_index_is_declared()
     ensures { LawOfUndeclaredIndexes }
+{}
+
+/// After a reference is written, at either side of its link, each member of each object shows what it showed, but for
+/// the reference's own, which shows what it leads to.
+pub fn reference_is_shown()
+    ensures { LawOfReferenceSides }
+{}
+
+/// After a set is changed, at either side of its link, each member of each object shows what it showed, but for the
+/// set's own, which shows its items.
+pub fn items_are_shown()
+    ensures { LawOfSetSides }
+{}
+
+/// Where each member with an inverse shows exactly the graph's pairs, the links are good: rule 11 holds. So a command
+/// that edits both sides of a link gives it back at its end.
+pub fn links_are_good()
+    ensures { LawOfGoodLinks }
+{}
+
+/// To join two objects by a two-sided link is to free the one at its side, where that is a reference, then the other at
+/// its own, and to add the pair.
+pub fn joining_goes_by_sides()
+    ensures { LawOfJoining }
 {}
 
 /// An index of ints has its entries by ascending int.

@@ -3,6 +3,8 @@
 ghost use Rattle.ostore_graph_model.specs.Examples.{DisplacedPartners, DeletedItem, DanglingReference, SetItems};
 ghost use Rattle.ostore_graph_model.specs.Examples.{ListsAndDictionaries, ReadingOnly, OrderOfRefusals, PathQueries};
 ghost use Rattle.ostore_graph_model.specs.FullGraphs.{SerialsEnd, RootsEnd, IndexesWantInverses, LaterRead};
+ghost use Rattle.ostore_graph_model.specs.RefusalOrders.{CollectionRefusals, PartnersOfBoth};
+ghost use Rattle.ostore_graph_model.specs.FullSets.{FilledSet, FullSet};
 
 /// A reference that is set parts both objects from whom they were joined with.
 pub fn displaced_partners()
@@ -62,4 +64,24 @@ pub fn roots_end()
 /// An index wants inverses: of the set, and of each reference on its path.
 pub fn indexes_want_inverses()
     ensures { IndexesWantInverses }
+{}
+
+/// Of a list and of a dictionary the test that comes first refuses, and a deleted item counts.
+pub fn collection_refusals()
+    ensures { CollectionRefusals }
+{}
+
+/// A reference that is set where both objects have partners parts them from both.
+pub fn partners_of_both()
+    ensures { PartnersOfBoth }
+{}
+
+/// Items are put into a set one by one, up to 31, and all are counted.
+pub fn filled_set()
+    ensures { FilledSet }
+{}
+
+/// Of a set of 31 items all are counted, and they are taken out one by one until none is left.
+pub fn full_set()
+    ensures { FullSet }
 {}

@@ -1,5 +1,5 @@
 -- Lists and dictionaries: `append`, `put`, `bind`, `unbind`.
-use Rattle.std.proofs.Common.{◌≡◌, ◌≢◌, ℕ, ◌≤◌, Bool, true, false, List, [], ◌∷◌, ◌++◌, length, Option, Some, None, refl, sym, ap, subst, ◌∙◌}
+use Rattle.std.proofs.Common.{◌≡◌, ℕ, Bool, true, false, List, [], ◌∷◌, ◌++◌, length, Option, Some, None, refl, sym, ap, subst, ◌∙◌}
 use Rattle.std.specs.Prelude.{not, ◌==◌, nat_lt, unwrap_or, slice_set, if◌then◌else◌, FitsSigned}
 use Rattle.std.specs.Int.{w64}
 use Rattle.std.specs.List.{AllByRecursion}
@@ -16,11 +16,11 @@ use Rattle.ostore_graph_model.specs.declared.values.Name.{Name}
 use Rattle.ostore_graph_model.specs.declared.refusal.Refusal.TheVariants.{TextTooLong, WrongKind}
 use Rattle.ostore_graph_model.specs.declared.commands.Key.{Key}
 use Rattle.ostore_graph_model.specs.declared.commands.Key.TheVariants as keys
-use Rattle.ostore_graph_model.specs.Orders.{key_cmp, ObjectMember, object_member_cmp}
+use Rattle.ostore_graph_model.specs.Orders.{key_cmp}
 use Rattle.ostore_graph_model.specs.Kinds.{is_list, is_dictionary, takes_key, target_of}
 use Rattle.ostore_graph_model.specs.Graph.{Graph, Dictionary}
 use Rattle.ostore_graph_model.specs.Links.{def_of}
-use Rattle.ostore_graph_model.specs.Deeds.{Vars, LiveMember, own_member, refused_where, first_refusal, of_other_type, key_too_long}
+use Rattle.ostore_graph_model.specs.Deeds.{Vars, LiveMember, own_member, first_refusal, of_other_type, key_too_long}
 use Rattle.ostore_graph_model.specs.Deeds.Collections.{items_of, with_items, out_of_range, append_deed, put_deed, bindings_of, with_bindings, other_key, bind_deed}
 use Rattle.ostore_graph_model.specs.LiveGraphs.{IsLive}
 use Rattle.ostore_graph_model.specs.GraphRules.{IsNameOf, member_in, IsListOf, IsKey, IsDictionaryOf, IsGraph}

@@ -1,5 +1,5 @@
 -- Every command leaves a graph of the schema, and a fresh database has one.
-use Rattle.std.proofs.Common.{◌≡◌, ℕ, ◌≤◌, Bool, true, false, List, [], Option, Some, None, refl, sym, ap, subst, ◌∙◌, arith}
+use Rattle.std.proofs.Common.{◌≡◌, ℕ, ◌≤◌, Bool, true, false, List, [], Option, Some, None, sym, ap, subst, ◌∙◌, arith}
 use Rattle.std.specs.Prelude.{is_some}
 use Rattle.std.specs.Ordering.{nat_cmp}
 use Rattle.std.specs.List.{list_any}
@@ -14,13 +14,13 @@ use Rattle.ostore_graph_model.specs.declared.commands.Operand.TheVariants as ope
 use Rattle.ostore_graph_model.specs.declared.commands.Key.{Key}
 use Rattle.ostore_graph_model.specs.declared.commands.Key.TheVariants as keys
 use Rattle.ostore_graph_model.specs.Orders.{name_cmp, pair_cmp, object_member_cmp, index_cmp, text_cmp}
-use Rattle.ostore_graph_model.specs.Graph.{Graph, empty_graph, is_live}
+use Rattle.ostore_graph_model.specs.Graph.{Graph, is_live}
 use Rattle.ostore_graph_model.specs.Links.{pair_at}
 use Rattle.ostore_graph_model.specs.Deeds.{Vars, Stepped, bound_to, of_other_type}
-use Rattle.ostore_graph_model.specs.Step.{line_of, is_dangling, step, Steps}
-use Rattle.ostore_graph_model.specs.LiveGraphs.{IsLive, HoldsLive}
+use Rattle.ostore_graph_model.specs.Step.{line_of, is_dangling, step}
+use Rattle.ostore_graph_model.specs.LiveGraphs.{IsLive}
 use Rattle.ostore_graph_model.specs.GraphRules.{IsGraph, IsWithinLimits, LawOfGraphs, LawOfFirstGraph}
-use Rattle.ostore_graph_model.proofs.PassedLaws.{split, one_live, two_live, Finds, TaskMay, step_may}
+use Rattle.ostore_graph_model.proofs.PassedLaws.{split, one_live, two_live, TaskMay, step_may}
 use Rattle.ostore_graph_model.proofs.LiveLaws.{law_of_live_graphs, empty_holds_live}
 use Rattle.ostore_graph_model.proofs.OnePartnerLaws.{law_of_one_partner}
 use Rattle.ostore_graph_model.proofs.Kept.Parts.{KeepsTypes, unchanged}

@@ -1,12 +1,10 @@
 -- Objects and their values: `new`, `set` to an int or a text, `delete`.
-use Rattle.std.proofs.Common.{◌≡◌, ℕ, ◌+◌, ◌≤◌, ◌<◌, Bool, true, false, List, [], ◌∷◌, length, map, Option, Some, None, refl, sym, ap, subst, ◌∙◌, arith, true≢false}
-use Rattle.std.specs.Prelude.{not, is_none, is_some, nat_lt, unwrap_or, slice_get, slice_set, zero, suc, ℤ, pos, ◌^◌, FitsSigned, option_map}
+use Rattle.std.proofs.Common.{◌≡◌, ℕ, ◌+◌, ◌≤◌, Bool, true, false, List, [], ◌∷◌, length, map, Option, Some, None, refl, sym, ap, subst, ◌∙◌, arith, true≢false}
+use Rattle.std.specs.Prelude.{not, is_none, nat_lt, unwrap_or, slice_get, slice_set, zero, suc, ℤ, ◌^◌, FitsSigned, option_map}
 use Rattle.std.specs.Int.{w64}
 use Rattle.std.specs.Str.{IsUtf8}
-use Rattle.std.specs.Ordering.{nat_cmp}
 use Rattle.std.specs.FinMap as maps
-use Rattle.std.specs.List.{position}
-use Rattle.std.proofs.lemmas.Bool.{cases_Bool, ltb-true, ltb-false}
+use Rattle.std.proofs.lemmas.Bool.{ltb-true, ltb-false}
 use Rattle.std.proofs.lemmas.Cmp.{nat_cmp_total}
 use Rattle.std.proofs.lemmas.Option.{same_Some, none-some, cond_some}
 use Rattle.ostore_schema_layout.specs.declared.schema.Schema.{Schema}
@@ -21,15 +19,13 @@ use Rattle.ostore_graph_model.specs.declared.values.Scalar.{Scalar}
 use Rattle.ostore_graph_model.specs.declared.values.Scalar.TheVariants as scalars
 use Rattle.ostore_graph_model.specs.declared.refusal.Refusal.TheVariants.{WrongType, SerialsSpent, TextTooLong}
 use Rattle.ostore_graph_model.specs.declared.commands.Command.TheVariants.{New}
-use Rattle.ostore_graph_model.specs.Sets as sets
-use Rattle.ostore_graph_model.specs.Orders.{name_cmp, Pair, pair_cmp, ObjectMember, object_member_cmp, PathIndex, index_cmp}
 use Rattle.ostore_graph_model.specs.Kinds.{is_int, is_text, no_type, room_of}
 use Rattle.ostore_graph_model.specs.Graph.{Graph, Object, is_drawn, last_serial}
 use Rattle.ostore_graph_model.specs.Links.{same_name, goes_with}
 use Rattle.ostore_graph_model.specs.Deeds.{Vars, LiveMember, object_of, refused_where, first_refusal}
 use Rattle.ostore_graph_model.specs.Deeds.Objects.{greatest_serial, next_name, first_value, new_object, with_new, new_deed, with_value, with_held, set_text_deed, without_object}
 use Rattle.ostore_graph_model.specs.LiveGraphs.{IsLive}
-use Rattle.ostore_graph_model.specs.GraphRules.{IsText, IsValueOf, AreValuesOf, IsObjectOf, IsLastSerial, IsGraph}
+use Rattle.ostore_graph_model.specs.GraphRules.{IsValueOf, AreValuesOf, IsObjectOf, IsLastSerial, IsGraph}
 use Rattle.ostore_graph_model.proofs.OrderLaws.{name_cmp-IsTotalOrder, name_cmp-IsAntisymmetric, pair_cmp-IsTotalOrder, pair_cmp-IsAntisymmetric, object_member_cmp-IsTotalOrder, object_member_cmp-IsAntisymmetric, index_cmp-IsTotalOrder, index_cmp-IsAntisymmetric}
 use Rattle.ostore_graph_model.proofs.StepLaws.{task_keeps, names_new}
 use Rattle.ostore_graph_model.proofs.PassedLaws.{split, passes, not_false, Finds}

@@ -1,17 +1,14 @@
 -- What a graph of a schema keeps where some of its parts change.
-use Rattle.std.proofs.Common.{◌≡◌, ℕ, ◌≤◌, Bool, true, false, List, [], ◌∷◌, ◌++◌, Option, Some, None, refl, sym, ap, subst, ◌∙◌, true≢false}
-use Rattle.std.specs.Prelude.{is_some, unwrap_or, slice_get, slice_set, zero, suc}
+use Rattle.std.proofs.Common.{◌≡◌, ℕ, ◌≤◌, true, List, [], ◌∷◌, ◌++◌, Option, Some, None, refl, sym, ap, ◌∙◌, true≢false}
+use Rattle.std.specs.Prelude.{is_some, unwrap_or, slice_set, zero, suc}
 use Rattle.std.specs.List.{AllByRecursion}
 use Rattle.std.specs.FinMap as maps
-use Rattle.std.specs.Ordering.{nat_cmp}
 use Rattle.std.proofs.lemmas.Option.{none-some}
 use Rattle.ostore_base.specs.Limits.{most_roots}
 use Rattle.ostore_schema_layout.specs.declared.schema.Schema.{Schema}
 use Rattle.ostore_schema_layout.specs.declared.schema.TypeNo.{TypeNo}
-use Rattle.ostore_schema_layout.specs.declared.schema.MemberNo.{MemberNo}
 use Rattle.ostore_schema_layout.specs.declared.schema.MemberDef.{MemberDef}
 use Rattle.ostore_graph_model.specs.declared.values.Name.{Name}
-use Rattle.ostore_graph_model.specs.declared.commands.Key.{Key}
 use Rattle.ostore_graph_model.specs.Sets as sets
 use Rattle.ostore_graph_model.specs.Orders.{Pair, pair_cmp, ObjectMember, object_member_cmp, PathIndex, index_cmp, text_cmp}
 use Rattle.ostore_graph_model.specs.Graph.{Graph, Object, Dictionary, is_drawn}

@@ -1,9 +1,9 @@
 -- References and roots: `set` to an object or to null, `setroot`. What joins two objects serves `insert` too.
-use Rattle.std.proofs.Common.{◌≡◌, ◌≢◌, ℕ, ◌+◌, ◌≤◌, ◌<◌, Bool, true, false, cond, List, [], ◌∷◌, Option, Some, None, refl, sym, ap, subst, ◌∙◌, arith, true≢false}
-use Rattle.std.specs.Prelude.{◌-◌, not, ◌&&◌, ◌==◌, is_none, is_some, nat_le, unwrap_or, if◌then◌else◌, IsTrue}
+use Rattle.std.proofs.Common.{◌≡◌, ◌≢◌, ℕ, ◌+◌, ◌≤◌, Bool, true, false, cond, List, [], Option, Some, None, refl, sym, ap, subst, ◌∙◌, arith}
+use Rattle.std.specs.Prelude.{◌-◌, not, ◌&&◌, ◌==◌, is_none, is_some, nat_le, if◌then◌else◌, IsTrue}
 use Rattle.std.specs.Option.{option_and_then}
 use Rattle.std.specs.FinMap as maps
-use Rattle.std.proofs.lemmas.Bool.{cases_Bool, leb-false, eqb-true, and_cases}
+use Rattle.std.proofs.lemmas.Bool.{leb-false, eqb-true}
 use Rattle.std.proofs.lemmas.Cmp.{nat_list_cmp_total}
 use Rattle.std.proofs.lemmas.Option.{same_Some, none-some}
 use Rattle.ostore_base.specs.Limits.{most_roots}
@@ -16,13 +16,13 @@ use Rattle.ostore_schema_layout.specs.declared.schema.MemberKind.TheVariants as 
 use Rattle.ostore_schema_layout.specs.declared.schema.Inverse.{Inverse}
 use Rattle.ostore_schema_layout.specs.Lawful.{link_target, inverse_of, IsLawful}
 use Rattle.ostore_graph_model.specs.declared.values.Name.{Name}
-use Rattle.ostore_graph_model.specs.declared.refusal.Refusal.TheVariants.{WrongType, NoRoot, RootsFull}
+use Rattle.ostore_graph_model.specs.declared.refusal.Refusal.TheVariants.{WrongType, RootsFull}
 use Rattle.ostore_graph_model.specs.Sets as sets
-use Rattle.ostore_graph_model.specs.Orders.{TypeMember, type_member_cmp, Pair, pair_cmp, text_cmp}
+use Rattle.ostore_graph_model.specs.Orders.{TypeMember, Pair}
 use Rattle.ostore_graph_model.specs.Kinds.{is_ref, is_set, target_of}
-use Rattle.ostore_graph_model.specs.Graph.{Graph, Object}
-use Rattle.ostore_graph_model.specs.Links.{def_of, inverse_at, member_of_inverse, comes_first, pair_from, pair_at, is_displaced, joined, joins_from, parted, IsLink}
-use Rattle.ostore_graph_model.specs.Deeds.{Vars, LiveMember, no_object, object_of, refused_where, first_refusal, of_other_type}
+use Rattle.ostore_graph_model.specs.Graph.{Graph}
+use Rattle.ostore_graph_model.specs.Links.{def_of, member_of_inverse, comes_first, pair_from, pair_at, is_displaced, joined, joins_from, parted}
+use Rattle.ostore_graph_model.specs.Deeds.{Vars, LiveMember, object_of, refused_where, first_refusal, of_other_type}
 use Rattle.ostore_graph_model.specs.Deeds.References.{bind_root_deed}
 use Rattle.ostore_graph_model.specs.LiveGraphs.{IsLive}
 use Rattle.ostore_graph_model.specs.GraphRules.{IsNameOf, IsPairOf, IsRootOf, IsGraph}

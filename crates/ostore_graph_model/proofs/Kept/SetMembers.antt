@@ -1,14 +1,13 @@
 -- Sets: `insert`, `remove`.
-use Rattle.std.proofs.Common.{◌≡◌, List, [], ◌∷◌, Option, Some, None}
+use Rattle.std.proofs.Common.{◌≡◌, [], ◌∷◌, None}
 use Rattle.ostore_schema_layout.specs.declared.schema.Schema.{Schema}
 use Rattle.ostore_schema_layout.specs.Lawful.{IsLawful}
 use Rattle.ostore_graph_model.specs.declared.values.Name.{Name}
 use Rattle.ostore_graph_model.specs.declared.refusal.Refusal.TheVariants.{AlreadyMember}
 use Rattle.ostore_graph_model.specs.Sets as sets
-use Rattle.ostore_graph_model.specs.Orders.{Pair, pair_cmp}
+use Rattle.ostore_graph_model.specs.Orders.{Pair}
 use Rattle.ostore_graph_model.specs.Kinds.{is_set}
 use Rattle.ostore_graph_model.specs.Graph.{Graph}
-use Rattle.ostore_graph_model.specs.Links.{pair_at}
 use Rattle.ostore_graph_model.specs.Deeds.{Vars, LiveMember, refused_where, first_refusal, of_other_type}
 use Rattle.ostore_graph_model.specs.Deeds.References.{with_joined}
 use Rattle.ostore_graph_model.specs.Deeds.SetMembers.{is_in, insert_deed}

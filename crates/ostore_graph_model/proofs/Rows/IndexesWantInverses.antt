@@ -1,21 +1,17 @@
 -- The commands one by one.
-use Rattle.std.proofs.Common.{◌≡◌, ◌∙◌, refl, ℕ, List, [], ◌∷◌, Option, Some, None, true, false}
-use Rattle.std.specs.Prelude.{codes, pos}
+use Rattle.std.proofs.Common.{◌≡◌, refl, [], ◌∷◌, true}
+use Rattle.std.specs.Prelude.{codes}
 use Rattle.std.specs.FinMap as maps
-use Rattle.ostore_schema_layout.specs.declared.schema.Schema.{Schema}
 use Rattle.ostore_schema_layout.specs.Numbers.{place_named}
-use Rattle.ostore_graph_model.specs.declared.values.Name.{Name}
-use Rattle.ostore_graph_model.specs.declared.values.Value.TheVariants as values
-use Rattle.ostore_graph_model.specs.declared.values.Reply.TheVariants.{Done, Named, Value, Refused}
+use Rattle.ostore_graph_model.specs.declared.values.Reply.TheVariants.{Done, Named, Refused}
 use Rattle.ostore_graph_model.specs.declared.refusal.Refusal.TheVariants as refusals
 use Rattle.ostore_graph_model.specs.declared.commands.Command.TheVariants as line
 use Rattle.ostore_graph_model.specs.Sets as sets
 use Rattle.ostore_graph_model.specs.Orders.{PathIndex}
-use Rattle.ostore_graph_model.specs.Graph.{Graph, empty_graph}
 use Rattle.ostore_graph_model.specs.Deeds.{Stepped}
 use Rattle.ostore_graph_model.specs.Deeds.Objects.{with_new}
 use Rattle.ostore_graph_model.specs.Step.{step}
-use Rattle.ostore_graph_model.specs.Examples.{chained, boxes, n, dangling_commands}
+use Rattle.ostore_graph_model.specs.Examples.{boxes, n}
 use Rattle.ostore_graph_model.specs.FullGraphs.{sacks, IndexesWantInverses}
 use Rattle.ostore_graph_model.proofs.Computing.{computes, start, om, box, sack}
 

@@ -1,26 +1,21 @@
 -- The commands one by one.
-use Rattle.std.proofs.Common.{◌≡◌, ◌∙◌, refl, ℕ, List, [], ◌∷◌, Option, Some, None, true, false}
+use Rattle.std.proofs.Common.{◌≡◌, refl, [], ◌∷◌, true, false}
 use Rattle.std.specs.Prelude.{codes, pos}
 use Rattle.std.specs.FinMap as maps
-use Rattle.ostore_schema_layout.specs.declared.schema.Schema.{Schema}
 use Rattle.ostore_schema_layout.specs.Numbers.{place_named}
-use Rattle.ostore_graph_model.specs.declared.values.Name.{Name}
-use Rattle.ostore_graph_model.specs.declared.values.Scalar.TheVariants as scalars
-use Rattle.ostore_graph_model.specs.declared.values.Value.TheVariants as values
-use Rattle.ostore_graph_model.specs.declared.values.Reply.TheVariants.{Done, Named, Value, Count, Names, Refused}
+use Rattle.ostore_graph_model.specs.declared.values.Reply.TheVariants.{Done, Named, Names, Refused}
 use Rattle.ostore_graph_model.specs.declared.refusal.Refusal.TheVariants as refusals
 use Rattle.ostore_graph_model.specs.declared.commands.Command.TheVariants as line
 use Rattle.ostore_graph_model.specs.declared.commands.Operand.TheVariants as operands
 use Rattle.ostore_graph_model.specs.declared.commands.Key.TheVariants as keys
 use Rattle.ostore_graph_model.specs.declared.commands.Op.TheVariants as ops
 use Rattle.ostore_graph_model.specs.Sets as sets
-use Rattle.ostore_graph_model.specs.Graph.{Object, empty_graph}
-use Rattle.ostore_graph_model.specs.Links.{pair_at, joined}
+use Rattle.ostore_graph_model.specs.Links.{joined}
 use Rattle.ostore_graph_model.specs.Deeds.{Stepped}
 use Rattle.ostore_graph_model.specs.Deeds.Objects.{with_new, without_object}
 use Rattle.ostore_graph_model.specs.Step.{step}
-use Rattle.ostore_graph_model.specs.Examples.{boxes, stores, bags, chained, by_code, n, PathQueries}
-use Rattle.ostore_graph_model.proofs.Computing.{computes, start, tm, om, crate, piece, shelf, shelf_with, store, the_index}
+use Rattle.ostore_graph_model.specs.Examples.{stores, by_code, n, PathQueries}
+use Rattle.ostore_graph_model.proofs.Computing.{computes, start, tm, crate, piece, shelf, shelf_with, store, the_index}
 
 abbrev s1 : Stepped
 s1 = record start { reply = Named (n 1 1); vars = maps.insert start.vars (codes "s") (n 1 1); graph = with_new start.graph 1 store }

@@ -1,5 +1,5 @@
 -- Lists and dictionaries: `append`, `put`, `at`, `bind`, `look`, `unbind`, and the size of any collection.
-use Rattle.std.specs.Prelude.{ℕ, ◌==◌, nat_le, is_none, not, if◌then◌else◌, List, [], ◌∷◌, ◌++◌, length, Option, slice_get, slice_set, unwrap_or}
+use Rattle.std.specs.Prelude.{ℕ, ◌==◌, nat_le, is_none, not, if◌then◌else◌, List, [], ◌∷◌, ◌++◌, length, slice_get, slice_set, unwrap_or}
 use Rattle.std.specs.FinMap as maps
 use Rattle.ostore_schema_layout.specs.declared.schema.Schema.{Schema}
 use Rattle.ostore_schema_layout.specs.declared.schema.MemberKind.{MemberKind}

@@ -1,12 +1,11 @@
 -- Declared indexes and queries: `index`, `unindex`, `query`.
-use Rattle.std.specs.Prelude.{ℕ, Bool, true, false, not, ◌&&◌, ◌||◌, if◌then◌else◌, List, [], ◌∷◌, map, Option, Some, None, Result, Ok, Err}
+use Rattle.std.specs.Prelude.{ℕ, Bool, false, not, ◌&&◌, ◌||◌, if◌then◌else◌, List, [], ◌∷◌, map, Option, Some, None, Result, Ok, Err}
 use Rattle.std.specs.List.{list_any}
 use Rattle.std.specs.Option.{option_map_or}
 use Rattle.std.specs.Result.{result_map_both}
 use Rattle.ostore_schema_layout.specs.declared.schema.Schema.{Schema}
 use Rattle.ostore_schema_layout.specs.declared.schema.TypeNo.{TypeNo}
 use Rattle.ostore_schema_layout.specs.declared.schema.MemberNo.{MemberNo}
-use Rattle.ostore_schema_layout.specs.declared.schema.MemberDef.{MemberDef}
 use Rattle.ostore_schema_layout.specs.declared.schema.MemberKind.{MemberKind}
 use Rattle.ostore_schema_layout.specs.declared.schema.MemberKind.TheVariants as kinds
 use Rattle.ostore_schema_layout.specs.Numbers.{member_named}

@@ -1,5 +1,5 @@
 -- Sets: `insert`, `remove`, `members`.
-use Rattle.std.specs.Prelude.{Bool, not, List, [], ◌∷◌}
+use Rattle.std.specs.Prelude.{Bool, not, [], ◌∷◌}
 use Rattle.ostore_schema_layout.specs.declared.schema.Schema.{Schema}
 use Rattle.ostore_graph_model.specs.declared.values.Name.{Name}
 use Rattle.ostore_graph_model.specs.declared.values.Reply.TheVariants as replies

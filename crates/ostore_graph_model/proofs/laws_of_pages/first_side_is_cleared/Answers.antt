@@ -1,0 +1,5 @@
+use Rattle.ostore_graph_model.proofs.ReferenceLaw.{first_null_law}
+use Rattle.ostore_graph_model.proofs.laws_of_pages.first_side_is_cleared.Goals as goal
+
+pub returns : goal.returns
+returns c = first_null_law
