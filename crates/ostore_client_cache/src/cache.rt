@@ -121,7 +121,8 @@ impl Cache {
     pub fn admit(&mut self, page: PageNo) -> Result<(), OutOfMemory>
         requires apart { lookup (nat_eq page.0) self.old.pages ≡ None }
         requires room { length self.old.pages ≤ self.old.most }
-        ensures ok { OnOk result (self.new ≡ cached ((page.0, fresh) ∷ self.old.pages) self.old.most) }
+        ensures ok { OnOk result
+            (self.new ≡ cached ((page.0, fresh) ∷ self.old.pages) self.old.most) }
         ensures err { OnErr result (self.new ≡ self.old) }
     {
         let image = BoxedImage::zeroed(self.alloc)?;

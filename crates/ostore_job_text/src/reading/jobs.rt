@@ -77,8 +77,9 @@ pub fn read_job_from(alloc: Global, text: &[u8], start: usize) -> Result<Job, Jo
 }
 
 /// Reads a job. Ok comes exactly for the texts of a job, and gives that one; each fault comes exactly where the
-/// text has it. TooLong is judged first, then NotUtf8, then Syntax; of the others the one with the least place is
-/// answered, and at one place the one with the least number.
+/// text has it. A text that is too long is judged no further, nor is one behind the first byte that isn't UTF-8, or
+/// behind the first word that can't stand. Of what names something wrongly the first in the text is answered, and where
+/// two faults have one place, the one with the lower number.
 pub fn parse_job(alloc: Global, bytes: &[u8]) -> Result<Job, JobFault>
     // What is answered is what the text says, a fault with its place.
     ensures exact { IsOrMemory result (parsed_job bytes.now) }

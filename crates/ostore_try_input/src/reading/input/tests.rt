@@ -94,6 +94,10 @@ fn texts_that_are_not_built(rt: HostRuntime) {
     }
 }
 
+fn has_fault(alloc: Global, text: &[u8], fault: JobFault) -> bool {
+    matches!(read_try_input(alloc, text), Err(TryFault::Job(found)) if found == fault)
+}
+
 #[test]
 fn jobs_at_fault(rt: HostRuntime) {
     for (text, fault) in [
@@ -126,6 +130,14 @@ fn jobs_at_fault(rt: HostRuntime) {
             b"type A\njob\nclient a\nturns a b\n".as_slice(),
             JobFault::UnknownTurn { at: 28 },
         ),
+    ] {
+        assert!(rt; has_fault(rt.alloc(), text, fault), "{text:?}");
+    }
+}
+
+#[test]
+fn the_fault_that_comes_first(rt: HostRuntime) {
+    for (text, fault) in [
         // before a schema that isn't built
         (
             b"type A\nb ref A\njob\nclient a\nclient a\n".as_slice(),
@@ -141,10 +153,7 @@ fn jobs_at_fault(rt: HostRuntime) {
             JobFault::Syntax { at: 26 },
         ),
     ] {
-        assert!(rt;
-            matches!(read_try_input(rt.alloc(), text), Err(TryFault::Job(found)) if found == fault),
-            "{text:?}"
-        );
+        assert!(rt; has_fault(rt.alloc(), text, fault), "{text:?}");
     }
 }
 
