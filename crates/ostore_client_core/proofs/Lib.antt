@@ -17,3 +17,5 @@ pub mod BeginLaws
 pub mod CommitLaws
 pub mod FrameLaws
 pub mod TestLaws
+pub mod WriteLaws
+pub mod FinishLaws

@@ -1,12 +1,12 @@
 -- Lists as a client sees them.
-use Rattle.std.proofs.Common.{◌≡◌, ℕ, zero, suc, ◌+◌, ◌≤◌, true, false, List, [], ◌∷◌, length, Option, Some, None, refl, sym, ap, subst, ◌∙◌, arith}
-use Rattle.std.specs.Prelude.{slice_get}
+use Rattle.std.proofs.Common.{◌≡◌, ◌≢◌, ◌⊎◌, ℕ, zero, suc, ◌+◌, ◌<◌, ◌≤◌, Bool, true, false, nat_eq, List, [], ◌∷◌, length, Option, Some, None, refl, sym, ap, subst, ◌∙◌, arith, inl, inr}
+use Rattle.std.specs.Prelude.{slice_get, IsSome}
 use Rattle.std.specs.Option.{option_map}
 use Rattle.std.proofs.lemmas.Bool.{false≢true}
 use Rattle.ostore_base.specs.declared.page.PageImage.{PageImage}
 use Rattle.ostore_schema_layout.specs.declared.schema.Schema.{Schema}
 use Rattle.ostore_page_service.specs.History.{Agrees}
-use Rattle.ostore_page_service.specs.Told.{Told}
+use Rattle.ostore_page_service.specs.Told.{Side, Told, SameService, SamePages}
 use Rattle.ostore_graph_model.specs.declared.commands.Script.{Script}
 use Rattle.ostore_graph_model.specs.declared.history.Entry.{Entry}
 use Rattle.ostore_graph_model.specs.Valid.{IsValid}
@@ -14,9 +14,10 @@ use Rattle.ostore_client_cache.specs.declared.entries.CachedPage.{CachedPage}
 use Rattle.ostore_client_cache.specs.declared.entries.Hold.{Hold}
 use Rattle.ostore_client_cache.specs.declared.entries.Hold.TheVariants.{Retained, InUse, Owned}
 use Rattle.ostore_client_cache.specs.Entries.{is_used, is_in_use}
-use Rattle.ostore_client_core.specs.Clients.{ClientView, entry_of, stored_image}
-use Rattle.ostore_client_core.specs.Attempts.{seen_as, seen_entry, seen, seen_from, seen_list, IsBase, Attempts, Narrows}
-use Rattle.ostore_client_core.proofs.GoesLaws.{GoesOn, KeepsPage, same_stored, goes_own}
+use Rattle.ostore_client_core.specs.Clients.{ClientView, entry_of, stored_image, IsOwn}
+use Rattle.ostore_client_core.specs.Attempts.{seen_as, seen_entry, seen, seen_from, seen_list, IsBase, Attempts, MayBe, Narrows}
+use Rattle.ostore_client_core.proofs.TiedLaws.{held_used, used_held}
+use Rattle.ostore_client_core.proofs.GoesLaws.{GoesOn, Extends, KeepsPage, same_stored, goes_own}
 
 -- lists with equal images at each place are equal
 pub same_get : {X : Type 0} (xs ys : List X) → ((k : ℕ) → slice_get xs k ≡ slice_get ys k) → xs ≡ ys
@@ -101,7 +102,13 @@ narrows serves later told now old new was h some held seen_as_before = record {
   };
   schema = h.more.schema;
   frames = h.more.frames;
+  views = λ page used. held_used (stored_image new page) now.mine page (entry_of new page) ((goes_own serves later told now old new h).tied page)
+      (held_still (told.mine.held page) (now.mine.held page) (held page) (used_held (stored_image old page) told.mine page (entry_of old page) (h.own.tied page) used));
 }
+  where
+    held_still : (o n : Option PageImage) → ((image : PageImage) → o ≡ Some image → n ≡ Some image) → IsSome o → IsSome n
+    held_still None n still some = absurd cc
+    held_still (Some image) n still some = subst IsSome (sym (still image refl)) refl
 
 -- with no page in use the attempt has made nothing
 pub nothing_made : (client : ClientView) (base : List PageImage) → ((page : ℕ) → is_in_use (entry_of client page) ≡ false) → seen_list client base ≡ base

@@ -1,5 +1,6 @@
 -- The pages in use, in ascending order.
-use Rattle.std.proofs.Common.{◌≡◌, ◌↔◌, ◌<◌, ℕ, Bool, true, false, nat_eq, List, get_or, Option, Some, None, refl, sym, ap, subst, ◌∙◌, arith}
+use Rattle.std.proofs.Common.{◌≡◌, ◌↔◌, ◌≤◌, ◌<◌, ℕ, Bool, true, false, nat_eq, List, length, map, get_or, Option, Some, None, refl, sym, ap, subst, ◌∙◌, arith}
+use Rattle.std.specs.Prelude.{IsSome}
 use Rattle.std.specs.List.{AllPairs, All, Contains, IsDistinct}
 use Rattle.std.specs.List.Sorted.{IsPermutation, IsSortedByKey, IsNonDecreasing, IsNonDecreasingBy}
 use Rattle.std.specs.Ordering.{nat_cmp}
@@ -8,10 +9,11 @@ use Rattle.std.specs.Cmp.{nat_eq_equiv}
 use Rattle.std.proofs.lemmas.List.{get_or-map, length-map}
 use Rattle.std.proofs.lemmas.List.Elements.{Contains-get_or, All-contains}
 use Rattle.std.proofs.lemmas.Bool.{false≢true}
-use Rattle.std.proofs.lemmas.List.Sorted.{IsPermutation-map, IsNonDecreasingBy-from_sort, Contains-permutation, IsPermutation-sym}
+use Rattle.std.proofs.lemmas.List.Sorted.{IsPermutation-map, IsNonDecreasingBy-from_sort, Contains-permutation, IsPermutation-sym, length_permutation}
 use Rattle.std.proofs.lemmas.List.Kept.{AllPairs-from_increasing}
 use Rattle.std.proofs.lemmas.Map.Keys.{IsDistinct-IsPermutation, IsStrictlyIncreasing-from_distinct}
 use Rattle.ostore_base.specs.declared.numbers.PageNo.{PageNo}
+use Rattle.ostore_schema_layout.specs.declared.schema.Schema.{Schema}
 use Rattle.ostore_client_cache.specs.declared.entries.CachedPage.{CachedPage}
 use Rattle.ostore_client_cache.specs.declared.entries.Hold.{Hold}
 use Rattle.ostore_client_cache.specs.declared.entries.Hold.TheVariants.{Retained, InUse, Owned}
@@ -20,7 +22,7 @@ use Rattle.ostore_client_cache.specs.Releases.{numbers_of}
 use Rattle.ostore_client_core.specs.declared.release.Ending.{Ending}
 use Rattle.ostore_client_core.specs.declared.release.Ending.TheVariants.{Committed, Aborted}
 use Rattle.ostore_client_core.specs.Calls.{is_void}
-use Rattle.ostore_client_core.specs.inside.Kept.{AreListed}
+use Rattle.ostore_client_core.specs.inside.Kept.{AreListed, IsClient}
 use Rattle.ostore_client_core.proofs.EntryLaws.{Pages}
 
 number : PageNo → ℕ
@@ -78,3 +80,18 @@ void_used Aborted (Some entry) void = owner_used entry.hold void
     owner_used Retained owner = absurd (false≢true owner)
     owner_used InUse owner = refl
     owner_used Owned owner = refl
+
+-- the pages in use, in another order
+pub kept_sorted : (schema : Schema) (pages : Pages) (used now : List PageNo) (room space most : ℕ) → IsPermutation used now → space ≡ room → IsClient schema pages used room most → IsClient schema pages now space most
+kept_sorted schema pages used now room space most moved same kept = record {
+  lawful = kept.lawful;
+  listed = record {
+    all = sorted_all pages used now moved kept.listed;
+    differ = IsDistinct-IsPermutation nat_eq flips (numbers_of used) (numbers_of now) (IsPermutation-map (λ (page : PageNo). page.0) used now moved) kept.listed.differ;
+    count = length_permutation used now moved ∙ kept.listed.count;
+  };
+  spare = subst (λ (n : ℕ). most ≤ n) (sym same) kept.spare;
+}
+  where
+    flips : (x y : ℕ) → nat_eq x y ≡ nat_eq y x
+    flips x y = nat_eq_equiv.symm x y

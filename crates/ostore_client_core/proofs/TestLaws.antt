@@ -1,11 +1,30 @@
--- A client of a fresh server.
-use Rattle.std.proofs.Common.{◌≡◌, ℕ, [], refl, sym}
+-- A client of a fresh server, and transactions without commands.
+use Rattle.std.proofs.Common.{◌≡◌, ◌<◌, ◌≤◌, ◌+◌, ℕ, true, false, List, [], ◌∷◌, length, Option, Some, None, refl, sym, ap, subst, ◌∙◌, arith}
+use Rattle.std.specs.Prelude.{All}
+use Rattle.std.proofs.lemmas.Bool.{false≢true}
+use Rattle.std.proofs.lemmas.List.Elements.{All-nil}
+use Rattle.ostore_base.specs.declared.page.PageImage.{PageImage}
 use Rattle.ostore_schema_layout.specs.declared.schema.Schema.{Schema}
-use Rattle.ostore_page_service.specs.Told.{Side}
+use Rattle.ostore_page_service.specs.Told.{Side, Told}
 use Rattle.ostore_page_service.specs.Holding.{IsEmpty}
 use Rattle.ostore_graph_model.specs.declared.commands.Script.{Script}
+use Rattle.ostore_graph_model.specs.declared.commands.Txn.{Txn}
 use Rattle.ostore_graph_model.specs.declared.history.Entry.{Entry}
-use Rattle.ostore_client_core.specs.Clients.{IsAbsent}
+use Rattle.ostore_graph_model.specs.Graph.{Graph}
+use Rattle.ostore_graph_model.specs.History.{txn_at}
+use Rattle.ostore_graph_model.specs.Transaction.{Runs}
+use Rattle.ostore_graph_model.specs.Growth.{growth}
+use Rattle.ostore_graph_model.specs.StandsFor.{StandsFor}
+use Rattle.ostore_graph_model.specs.Valid.{IsValid}
+use Rattle.ostore_client_cache.specs.declared.entries.CachedPage.{CachedPage}
+use Rattle.ostore_client_cache.specs.declared.entries.Hold.{Hold}
+use Rattle.ostore_client_cache.specs.declared.entries.Hold.TheVariants.{Retained, InUse, Owned}
+use Rattle.ostore_client_cache.specs.Entries.{is_in_use, is_owned, is_owner, is_used}
+use Rattle.ostore_client_core.specs.Kinds.{HasReplies, Follows}
+use Rattle.ostore_client_core.specs.Clients.{ClientView, entry_of, IsAbsent, IsIdle}
+use Rattle.ostore_client_core.specs.Commits.{FitsClient}
+use Rattle.ostore_client_core.specs.inside.Nothing.{NamesNothing, nothing}
+use Rattle.ostore_client_core.proofs.SeenLaws.{nothing_made}
 
 pub nothing_held : {side : Side Entry} → IsEmpty side → (page : ℕ) → IsAbsent side page
 nothing_held empty page = record { held = empty.held page; owned = empty.owned page; kept = empty.kept page }
@@ -13,3 +32,89 @@ nothing_held empty page = record { held = empty.held page; owned = empty.owned p
 -- a script of the schema is served
 pub fresh_script : {P : Script → Type 0} {schema now : Schema} → ((s : Script) → s.schema ≡ schema → P s) → now ≡ schema → (script : Script) × P script × (script.schema ≡ now)
 fresh_script {P} {schema} {now} served is = (record { schema = schema; clients = [] }, served (record { schema = schema; clients = [] }) refl, sym is)
+
+-- and one whose first client has such a transaction
+with_nothing : Schema → Entry → Script
+with_nothing schema entry = record { schema = schema; clients = (nothing entry ∷ []) ∷ [] }
+
+pub fresh_named : {P : Script → Type 0} {schema now : Schema} (entry : Entry) → entry.client.0 ≡ 0 → entry.ordinal ≡ 1 → ((s : Script) → s.schema ≡ schema → P s) → now ≡ schema
+    → (script : Script) × P script × (script.schema ≡ now) × NamesNothing script entry
+unfolding with_nothing
+fresh_named {P} {schema} {now} entry client ordinal served is = (
+  with_nothing schema entry,
+  served (with_nothing schema entry) refl,
+  sym is,
+  record {
+    named = ap (λ (c : ℕ). txn_at (with_nothing schema entry) c entry.ordinal) client ∙ ap (λ (o : ℕ). txn_at (with_nothing schema entry) 0 o) ordinal;
+    kept = refl;
+    kind = refl;
+  },
+)
+
+-- ---- what makes nothing fits
+
+unowned_by : (hold : Hold) → is_used hold ≡ false → is_owner hold ≡ false
+unowned_by Retained idle = refl
+unowned_by InUse idle = refl
+unowned_by Owned idle = absurd (false≢true (sym idle))
+
+unowned : (found : Option CachedPage) → is_in_use found ≡ false → is_owned found ≡ false
+unowned None idle = refl
+unowned (Some entry) idle = unowned_by entry.hold idle
+
+runs_nothing : (script : Script) (entry : Entry) (graph : Graph) → entry.replies ≡ [] → Runs script.schema (nothing entry) graph entry.replies graph
+runs_nothing script entry graph none = ap (λ replies. record { replies = replies; graph = graph }) (sym none)
+
+follows_nothing : (script : Script) (entry : Entry) (base : List PageImage) → entry.replies ≡ [] → NamesNothing script entry → IsValid script.schema base → Follows script entry base base
+follows_nothing script entry base none names valid =
+    let graph : Graph = valid.indexes_kept.graph in
+    let free = valid.pages_kept.allocated.chains in
+    let more : ℕ = growth graph [] in
+    record {
+      txn = nothing entry;
+      names = names;
+      graph = graph;
+      stands = valid.indexes_kept.stands;
+      after = graph;
+      runs = runs_nothing script entry graph none;
+      valid = valid;
+      stands_after = valid.indexes_kept.stands;
+      free = free.0;
+      has_free = free.2.free_list;
+      free_after = free.0;
+      has_free_after = free.2.free_list;
+      growth = less (length free.0) more;
+    }
+  where
+    less : (a b : ℕ) → a ≤ a + b
+    less a b = omega arith
+
+right_nothing : (script : Script) (entry : Entry) (base : List PageImage) → entry.replies ≡ [] → NamesNothing script entry → IsValid script.schema base → HasReplies script entry base
+right_nothing script entry base none names valid = record {
+  txn = nothing entry;
+  names = names;
+  graph = valid.indexes_kept.graph;
+  stands = valid.indexes_kept.stands;
+  after = valid.indexes_kept.graph;
+  runs = runs_nothing script entry valid.indexes_kept.graph none;
+}
+
+pub nothing_fits : (serves : Script → Type 0) (told : Told Entry) (client : ClientView) (script : Script) (entry : Entry) → serves script → script.schema ≡ client.schema → entry.client.0 ≡ told.client → told.mine.records ≡ [] → entry.replies ≡ [] → NamesNothing script entry → IsIdle client
+    → FitsClient serves told client entry
+nothing_fits serves told client script entry served schema mine first none names idle = record {
+  script = script;
+  served = served;
+  schema = schema;
+  fits = record {
+    mine = mine;
+    named = (nothing entry, names);
+    rises = subst (λ (l : List (Entry × ℕ)). All (λ (earlier : Entry × ℕ). earlier.0.ordinal < entry.ordinal) l) (sym first) (All-nil (λ (earlier : Entry × ℕ). earlier.0.ordinal < entry.ordinal));
+    reads = λ is page. unowned (entry_of client page) (idle page);
+    right = λ base list may. right_nothing script entry base none names (valid_of base may.began.valid);
+    next = λ updates base list may.
+        subst (λ (l : List PageImage). Follows script entry base l) (sym (may.made ∙ nothing_made client base idle)) (follows_nothing script entry base none names (valid_of base may.began.valid));
+  };
+}
+  where
+    valid_of : (base : List PageImage) → IsValid client.schema base → IsValid script.schema base
+    valid_of base valid = subst (λ (s : Schema). IsValid s base) (sym schema) valid

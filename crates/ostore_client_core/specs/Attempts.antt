@@ -14,7 +14,7 @@ use Rattle.ostore_graph_model.specs.Valid.{IsValid}
 use Rattle.ostore_client_cache.specs.declared.entries.CachedPage.{CachedPage}
 use Rattle.ostore_client_cache.specs.declared.entries.Hold.{Hold}
 use Rattle.ostore_client_cache.specs.declared.entries.Hold.TheVariants.{Retained, InUse, Owned}
-use Rattle.ostore_client_core.specs.Clients.{ClientView, entry_of, stored_image, IsOwn}
+use Rattle.ostore_client_core.specs.Clients.{ClientView, entry_of, stored_image, is_page_used, IsOwn}
 
 -- ---- a list as the client sees it
 
@@ -71,9 +71,10 @@ home_of client pointer =
 
 -- ---- steps of an attempt
 
--- each list that the attempt may stand for it might stand for before
+-- Each list that the attempt may stand for it might stand for before. Pages in use stay in use, and pages in their frames.
 pub record Narrows (serves later : Script → Type 0) (told now : Told Entry) (old new : ClientView) : Type 0 where
   pub runs : Attempts later now new
   pub lists : (base list : List PageImage) → MayBe later now new base list → MayBe serves told old base list
   pub schema : new.schema ≡ old.schema
   pub frames : KeepsFrames old.frames.pages new.frames.pages
+  pub views : (page : ℕ) → is_page_used old page → is_page_used new page

@@ -1,2 +1,4 @@
 pub mod Kept
 pub mod Releasing
+pub mod Writing
+pub mod Nothing

@@ -13,6 +13,7 @@ ghost use Rattle.ostore_client_core.specs.Attempts.{Attempts};
 mod addresses;
 mod ending;
 mod entering;
+mod finishing;
 mod owning;
 mod steps;
 
@@ -29,6 +30,7 @@ use std::marker::Model;
 /// contract sees it as a `ClientView`.
 #[derive(Drop)]
 pub struct Client<'a, M: Mapper> {
+    alloc: Global,
     schema: &'a Schema,
     mapper: &'a M,
     space: Space,
@@ -72,6 +74,7 @@ impl<'a, M: Mapper> Client<'a, M> {
         let pages = Cache::new(alloc, cache)?;
         let used = Vec::with_capacity(alloc, cache as usize)?;
         Ok(Client {
+            alloc,
             schema,
             mapper,
             space,

@@ -6,6 +6,7 @@ mod client;
 mod fault;
 mod kind;
 mod release;
+mod writing;
 
 pub use client::Client;
 pub use fault::AttemptFault;

@@ -1,6 +1,6 @@
 //! A client over a server in one thread.
 
-ghost use Rattle.std.specs.Prelude.{◌≡◌, ◌<◌, ◌≤◌, ℕ, true, length, IfOk};
+ghost use Rattle.std.specs.Prelude.{◌≡◌, ◌<◌, ◌≤◌, ℕ, true, [], length, IfOk};
 ghost use Rattle.ostore_schema_layout.specs.Spells.{Spells};
 ghost use Rattle.ostore_graph_model.specs.declared.commands.Script.{Script};
 ghost use Rattle.ostore_page_service.specs.Holding.{IsEmpty};
@@ -8,11 +8,12 @@ ghost use Rattle.ostore_page_service.specs.Servers.{side_of, opened_of, Serves};
 ghost use Rattle.ostore_page_service.specs.Told.{SameService};
 ghost use Rattle.ostore_client_core.specs.Attempts.{Attempts};
 ghost use Rattle.ostore_client_core.specs.Clients.{IsIdle, IsOwn};
+ghost use Rattle.ostore_client_core.specs.inside.Nothing.{NamesNothing};
 
 use super::*;
 use ostore_address_space::{Low, Mapper};
-use ostore_base::{ClientNo, MemDisk, OutOfMemory, PageNo};
-use ostore_graph_model::fresh_pages_are_empty;
+use ostore_base::{ClientNo, ListOf, MemDisk, OutOfMemory, PageNo};
+use ostore_graph_model::{Entry, fresh_pages_are_empty};
 use ostore_page_service::{PageClaims, PageService, SeqServer};
 use ostore_page_tags::fresh_pages;
 use ostore_redo_journal::counting::Journal;
@@ -173,6 +174,28 @@ fn come_back<M: Mapper, S: PageService<GraphKind>>(
     Ok(away && client.deref(address, 8).is_some())
 }
 
+/// Commits a transaction without commands, of which the script has one that the entry names.
+fn commit_nothing<M: Mapper, S: PageService<GraphKind>>(
+    client: &mut Client<'_, M>,
+    service: &mut S,
+    turn: S::Turn,
+    entry: Entry,
+) -> Result<u64, AttemptFault>
+    requires own { IsOwn (S.serves service.old) (S.tells service.old) client.old }
+    requires idle { IsIdle client.old }
+    requires writer { (S.tells service.old).may_write ≡ true }
+    requires mine { entry.client.0 ≡ (S.tells service.old).client }
+    requires first { (S.tells service.old).mine.records ≡ [] }
+    requires none { entry.replies ≡ [] }
+    requires script { (script : Script) × S.serves service.old script
+        × (script.schema ≡ client.old.schema) × NamesNothing script entry }
+{
+    if client.begin(service, entry.update).is_err() {
+        return Err(AttemptFault::OutOfMemory);
+    }
+    client.finish(service, turn, entry)
+}
+
 #[test]
 fn a_cache_of_two_pages_meets_three_in_turn(rt: HostRuntime) -> Result<(), Fail> {
     let alloc = rt.alloc();
@@ -237,6 +260,24 @@ fn a_retained_page_comes_back_by_its_address(rt: HostRuntime) -> Result<(), Fail
     client.fresh_is_own(&service);
     assert!(rt; come_back(&mut client, &mut service, PageNo(10))?);
     assert_eq!(rt; client.fetches(), 1);
+    Ok(())
+}
+
+#[test]
+fn a_transaction_without_commands_has_a_number(rt: HostRuntime) -> Result<(), Fail> {
+    let alloc = rt.alloc();
+    let schema = parse_schema(alloc, NO_TYPES)?;
+    let mut server = fresh_server(alloc, NO_TYPES, &schema)?;
+    let mut client = Client::new(alloc, &schema, &Low, ClientNo(0), 4, 12)?;
+    let mut service = server.as_client(ClientNo(0));
+    client.fresh_is_own(&service);
+    let entry = Entry {
+        client: ClientNo(0),
+        ordinal: 1,
+        update: true,
+        replies: ListOf::new(alloc),
+    };
+    assert_eq!(rt; commit_nothing(&mut client, &mut service, (), entry), Ok(1));
     Ok(())
 }
 

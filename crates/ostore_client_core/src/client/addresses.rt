@@ -4,7 +4,7 @@ ghost use Rattle.std.specs.Prelude.{◌≡◌, ◌≤◌, ◌<◌, ◌+◌, ◌/
 ghost use Rattle.std.specs.Map.{set_value};
 ghost use Rattle.ostore_base.specs.declared.page.TheConstants.{PAGE_SIZE};
 ghost use Rattle.ostore_address_space.specs.Frames.{page_in};
-ghost use Rattle.ostore_page_service.specs.Told.{SameRecords, StillServes};
+ghost use Rattle.ostore_page_service.specs.Told.{SameRecords, StillServes, NoBusy};
 ghost use Rattle.ostore_client_cache.specs.Entries.{is_owned, with_bytes};
 ghost use Rattle.ostore_client_core.specs.Clients.{entry_of, is_page_used, with_pages, IsOwn};
 ghost use Rattle.ostore_client_core.specs.Attempts.{Attempts, Narrows};
@@ -43,6 +43,7 @@ impl<'a, M: Mapper> Client<'a, M> {
             (S.tells service.old) (S.tells service.new) self.old self.new) }
         ensures used { IfSome (page_in self.old.frames.pages (address / 4096)) (λ page.
             OnOk result (is_page_used self.new page.0)) }
+        ensures calm { OnOk result (NoBusy (S.tells service.old) (S.tells service.new)) }
         ensures refused { IfSome (page_in self.old.frames.pages (address / 4096)) (λ page.
             IfErr result (λ fault. Refused fault self.old self.new page
             (S.tells service.old) (S.tells service.new))) }
@@ -71,6 +72,7 @@ impl<'a, M: Mapper> Client<'a, M> {
             (S.tells service.old) (S.tells service.new) self.old self.new) }
         ensures owned { IfSome (page_in self.old.frames.pages (address / 4096)) (λ page.
             OnOk result (OwnsPage self.old self.new page.0)) }
+        ensures calm { OnOk result (NoBusy (S.tells service.old) (S.tells service.new)) }
         ensures refused { IfSome (page_in self.old.frames.pages (address / 4096)) (λ page.
             IfErr result (λ fault. (self.new ≡ self.old)
             × IsBusy fault (S.tells service.old) (S.tells service.new) page.0)) }

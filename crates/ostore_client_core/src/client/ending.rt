@@ -17,7 +17,7 @@ use ostore_page_service::{PageClaims, PageService};
 
 impl<'a, M: Mapper> Client<'a, M> {
     /// Gives all pages in use back. It takes no memory.
-    fn release_used<S: PageClaims<GraphKind>>(&mut self, service: &mut S, ending: Ending)
+    pub(crate) fn release_used<S: PageClaims<GraphKind>>(&mut self, service: &mut S, ending: Ending)
         requires known { (page : ℕ) → is_in_use (entry_of self.old page) ≡ true
             → page < length (S.tells service.old).opened }
         requires held { (page : ℕ) → is_in_use (entry_of self.old page) ≡ true

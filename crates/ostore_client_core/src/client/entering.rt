@@ -70,6 +70,7 @@ impl<'a, M: Mapper> Client<'a, M> {
         ensures narrows { OnOk result (Narrows (S.serves service.old) (S.serves service.new)
             (S.tells service.old) (S.tells service.new) self.old self.new) }
         ensures used { OnOk result (is_page_used self.new page.0) }
+        ensures calm { OnOk result (NoBusy (S.tells service.old) (S.tells service.new)) }
         ensures refused { IfErr result (λ fault. Refused fault self.old self.new page
             (S.tells service.old) (S.tells service.new)) }
         ensures same { SameRecords (S.tells service.old) (S.tells service.new) }
@@ -106,6 +107,7 @@ impl<'a, M: Mapper> Client<'a, M> {
         ensures narrows { OnOk result (Narrows (S.serves service.old) (S.serves service.new)
             (S.tells service.old) (S.tells service.new) self.old self.new) }
         ensures used { OnOk result (is_page_used self.new page.0) }
+        ensures calm { OnOk result (NoBusy (S.tells service.old) (S.tells service.new)) }
         ensures refused { IfErr result (λ fault. Refused fault self.old self.new page
             (S.tells service.old) (S.tells service.new)) }
         ensures same { SameRecords (S.tells service.old) (S.tells service.new) }
@@ -143,6 +145,7 @@ impl<'a, M: Mapper> Client<'a, M> {
         ensures narrows { OnOk result (Narrows (S.serves service.old) (S.serves service.new)
             (S.tells service.old) (S.tells service.new) self.old self.new) }
         ensures used { OnOk result (is_page_used self.new page.0) }
+        ensures calm { OnOk result (NoBusy (S.tells service.old) (S.tells service.new)) }
         ensures refused { IfErr result (λ fault. Refused fault self.old self.new page
             (S.tells service.old) (S.tells service.new)) }
         ensures same { SameRecords (S.tells service.old) (S.tells service.new) }
@@ -192,6 +195,7 @@ impl<'a, M: Mapper> Client<'a, M> {
         ensures narrows { OnOk result (Narrows (S.serves service.old) (S.serves service.new)
             (S.tells service.old) (S.tells service.new) self.old self.new) }
         ensures used { OnOk result (is_page_used self.new page.0) }
+        ensures calm { OnOk result (NoBusy (S.tells service.old) (S.tells service.new)) }
         ensures address { IfOk result (IsAddressOf self.new page.0) }
         ensures refused { IfErr result (λ fault. Refused fault self.old self.new page
             (S.tells service.old) (S.tells service.new)) }

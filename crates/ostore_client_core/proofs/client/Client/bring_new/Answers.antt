@@ -1,9 +1,11 @@
-use Rattle.std.proofs.Common.{◌≡◌, ◌∷◌, refl, sym, ap, subst}
+use Rattle.std.proofs.Common.{◌≡◌, nat_eq, ◌∷◌, None, refl, sym, ap, subst, ◌∙◌}
+use Rattle.ostore_base.specs.declared.numbers.PageNo.{PageNo}
+use Rattle.ostore_base.specs.declared.page.PageImage.{PageImage}
 use Rattle.ostore_schema_layout.specs.declared.schema.Schema.{Schema}
 use Rattle.ostore_page_service.specs.Told.{Told, InUse}
 use Rattle.ostore_graph_model.specs.declared.history.Entry.{Entry}
 use Rattle.ostore_client_cache.specs.Caches.{fresh, surplus}
-use Rattle.ostore_client_core.specs.Clients.{ClientView, with_pages, IsOwn}
+use Rattle.ostore_client_core.specs.Clients.{ClientView, with_pages, entry_of, IsOwn}
 use Rattle.ostore_client_core.specs.Calls.{Drops, IsFitPage}
 use Rattle.ostore_client_core.proofs.RecordLaws.{records_then, calm_then}
 use Rattle.ostore_client_core.proofs.GoesLaws.{own_still}
@@ -148,3 +150,17 @@ returns-in_default-clause-same g c =
 
 pub returns-in_default-clause-served : goal.returns-in_default-clause-served
 returns-in_default-clause-served g c = λ s serving. c.in_default.ensures.served s (c.trim.ensures.served s (c.in-Ok.ensures.served s serving))
+
+-- ---- no Busy
+
+pub returns-in_default-clause-calm : goal.returns-in_default-clause-calm
+returns-in_default-clause-calm g c =
+    let told : Told Entry = g.S.PageClaims.tells c.args.service.now in
+    let claimed : Told Entry = g.S.PageClaims.tells c.claim_read.new.self in
+    let dropped : Told Entry = g.S.PageClaims.tells c.trim.new.service in
+    let now : Told Entry = g.S.PageClaims.tells c.take.new.service in
+    let old : ClientView = c.args.self.now in
+    let is : c.admit.new.self ≡ with_pages ((c.args.page.0, fresh) ∷ old.pages) old = admitted_ok _ c.admit.result c.admit.ensures.ok c.if-is_err.ensures.value in
+    let use_is : InUse told claimed c.args.page.0 c.claim_read.new.into = new_use c.in-Ok.field-0 told claimed c.args.page.0 _ c.claim_read.new.into (absent_is (g.S.PageClaims.serves c.args.service.now) told old c.args.page.0 c.requires.runs c.requires.absent c.requires.room c.pages_differ.ensures).kept c.in-Ok.ensures.claimed in
+    let drops : Drops (way old c.args.page.0) claimed dropped = subst (λ (v : ClientView). Drops (surplus v.pages v.most) claimed dropped) is c.trim.ensures.dropped in
+    calm_then told claimed now use_is.calm (calm_then claimed dropped now (drops_calm (way old c.args.page.0) claimed dropped drops) c.in_default.ensures.calm)

@@ -1,8 +1,10 @@
-use Rattle.std.proofs.Common.{nat_eq, refl, ap, ◌∙◌}
+use Rattle.std.proofs.Common.{◌≡◌, nat_eq, None, refl, ap, ◌∙◌}
 use Rattle.std.specs.Map.{lookup}
+use Rattle.ostore_base.specs.declared.page.PageImage.{PageImage}
 use Rattle.ostore_page_service.specs.Told.{Told, InUse}
 use Rattle.ostore_graph_model.specs.declared.history.Entry.{Entry}
 use Rattle.ostore_client_core.specs.Clients.{ClientView, entry_of, stored_image}
+use Rattle.ostore_client_core.specs.Attempts.{Narrows}
 use Rattle.ostore_client_core.proofs.EntryLaws.{gone_here}
 use Rattle.ostore_client_core.proofs.RecordLaws.{records_then, calm_then}
 use Rattle.ostore_client_core.proofs.GoesLaws.{own_still}
@@ -105,3 +107,16 @@ returns-in_default-clause-used g c = takes_use c.args.self.now c.take.new.self c
 
 pub returns-in_default-clause-served : goal.returns-in_default-clause-served
 returns-in_default-clause-served g c = λ s serving. c.in_default.ensures.served s (c.in-Ok-Fetched.ensures.served s serving)
+
+-- ---- no Busy
+
+pub returns-in-Ok-Kept-clause-calm : goal.returns-in-Ok-Kept-clause-calm
+returns-in-Ok-Kept-clause-calm g c =
+    (kept_use c.in-Ok-Kept.field-0 (g.S.PageClaims.tells c.args.service.now) (g.S.PageClaims.tells c.claim_read.new.self) c.args.page.0 _ c.claim_read.new.into c.in-Ok-Kept.field-0-is c.in-Ok-Kept.ensures.claimed).2.calm
+
+pub returns-in_default-clause-calm : goal.returns-in_default-clause-calm
+returns-in_default-clause-calm g c =
+    let told : Told Entry = g.S.PageClaims.tells c.args.service.now in
+    let claimed : Told Entry = g.S.PageClaims.tells c.claim_read.new.self in
+    let use_is : InUse told claimed c.args.page.0 c.claim_read.new.into = fetched_use c.in-Ok-Fetched.field-0 told claimed c.args.page.0 _ c.claim_read.new.into c.in-Ok-Fetched.field-0-is c.in-Ok-Fetched.ensures.claimed in
+    calm_then told claimed (g.S.PageClaims.tells c.take.new.service) use_is.calm c.in_default.ensures.calm

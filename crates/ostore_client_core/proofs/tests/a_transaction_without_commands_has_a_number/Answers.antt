@@ -1,0 +1,30 @@
+use Rattle.std.proofs.Common.{refl, sym, ap, subst}
+use Rattle.ostore_base.specs.declared.numbers.ClientNo.{ClientNo}
+use Rattle.ostore_page_service.specs.Holding.{IsEmpty}
+use Rattle.ostore_page_service.specs.Servers.{side_of, Serves}
+use Rattle.ostore_client_core.specs.Clients.{ClientView}
+use Rattle.ostore_client_core.proofs.TestLaws.{fresh_named, fresh_script, nothing_held}
+use Rattle.ostore_client_core.proofs.tests.a_transaction_without_commands_has_a_number.Goals as goal
+
+pub fresh_is_own-requires-clause-script : goal.fresh_is_own-requires-clause-script
+fresh_is_own-requires-clause-script g c =
+    let s = c.as_client-service in
+    fresh_script (λ t is. subst (λ x. Serves x t) (sym s.ensures.same) (c.in_ok-server.ensures.served t is)) (ap (λ (v : ClientView). v.schema) c.in_ok-client.ensures)
+
+pub fresh_is_own-requires-clause-nothing : goal.fresh_is_own-requires-clause-nothing
+fresh_is_own-requires-clause-nothing g c =
+    let s = c.as_client-service in
+    nothing_held (subst (λ (n : ClientNo). IsEmpty (side_of s.result.server.now n.0)) (sym s.ensures.client) (subst (λ x. IsEmpty (side_of x 0)) (sym s.ensures.same) (c.in_ok-server.ensures.empty 0)))
+
+pub commit_nothing-requires-clause-mine : goal.commit_nothing-requires-clause-mine
+commit_nothing-requires-clause-mine g c = sym (ap (λ (n : ClientNo). n.0) c.as_client-service.ensures.client)
+
+pub commit_nothing-requires-clause-first : goal.commit_nothing-requires-clause-first
+commit_nothing-requires-clause-first g c =
+    let s = c.as_client-service in
+    (subst (λ (n : ClientNo). IsEmpty (side_of s.result.server.now n.0)) (sym s.ensures.client) (subst (λ x. IsEmpty (side_of x 0)) (sym s.ensures.same) (c.in_ok-server.ensures.empty 0))).records
+
+pub commit_nothing-requires-clause-script : goal.commit_nothing-requires-clause-script
+commit_nothing-requires-clause-script g c =
+    let s = c.as_client-service in
+    fresh_named _ refl refl (λ t is. subst (λ x. Serves x t) (sym s.ensures.same) (c.in_ok-server.ensures.served t is)) (ap (λ (v : ClientView). v.schema) c.in_ok-client.ensures)
