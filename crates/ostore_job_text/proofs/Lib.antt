@@ -15,3 +15,4 @@ pub mod BadOptions
 pub mod NamedFaults
 pub mod RisingLines
 pub mod FaultsTold
+pub mod TextsWithin

@@ -9,5 +9,6 @@ pub mod ParsedJob
 pub mod LawfulJob
 pub mod FaultsOf
 pub mod JobSpelling
+pub mod WithinLimits
 -- What only ties private code.
 pub mod inside

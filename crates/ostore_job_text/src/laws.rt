@@ -6,6 +6,7 @@ ghost use Rattle.ostore_job_text.specs.declared.fault.JobFault.{JobFault};
 ghost use Rattle.ostore_job_text.specs.declared.job.Job.{Job};
 ghost use Rattle.ostore_job_text.specs.JobSpelling.{SpellsJob};
 ghost use Rattle.ostore_job_text.specs.ParsedJob.{parsed_job};
+ghost use Rattle.ostore_job_text.specs.WithinLimits.{IsJobWithinLimits};
 
 /// What a text spells is what it is read as.
 pub fn spelled_is_read()
@@ -27,4 +28,9 @@ pub fn one_job_is_spelled()
 pub fn first_fault_is_read()
     ensures { (text : List ℕ) → (fault : JobFault) →
         (parsed_job text ≡ Err fault) ↔ IsFaultOf text fault }
+{}
+
+/// Each command of a job that a text spells writes within its limits, so it leaves a graph of the schema.
+pub fn spelled_is_within_limits()
+    ensures { (text : List ℕ) → (job : Job) → SpellsJob text job → IsJobWithinLimits job }
 {}

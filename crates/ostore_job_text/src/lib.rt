@@ -11,5 +11,8 @@ pub use fault::JobFault;
 pub use job::{
     DEFAULT_CACHE, DEFAULT_FRAMES, DEFAULT_TRIES, Job, JobClient, JobClients, JobTurn, JobTurns,
 };
-pub use laws::{first_fault_is_read, one_job_is_spelled, read_is_spelled, spelled_is_read};
+pub use laws::{
+    first_fault_is_read, one_job_is_spelled, read_is_spelled, spelled_is_read,
+    spelled_is_within_limits,
+};
 pub use reading::{LONGEST_TEXT, parse_job, read_job_from};
