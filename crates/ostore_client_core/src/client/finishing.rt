@@ -30,6 +30,7 @@ impl<'a, M: Mapper> Client<'a, M> {
         ensures ordinal { IfOk result (λ rec. rec.ordinal ≡ ordinal) }
         ensures writes { IfOk result (λ rec. WritesOwned self.old rec.pages) }
     {
+        // at most 16,384, as the pages of a cache are: so their count is a u16
         let _most = self.cache.most();
         let count = self.cache.used();
         self.used.sort_unstable();
