@@ -1,15 +1,14 @@
 -- Two reports of one text are equal.
-use Rattle.std.proofs.Common.{◌≡◌, ℕ, List, length, map, Some, refl, sym, ap, subst, ◌∙◌}
-use Rattle.ostore_graph_model.specs.History.{IsLegalHistory, IsSerial, updates}
-use Rattle.ostore_graph_model.specs.Graph.{Graph, empty_graph}
+use Rattle.std.proofs.Common.{◌≡◌, length, map, sym, ap, subst, ◌∙◌}
+use Rattle.ostore_graph_model.specs.History.{IsLegalHistory, updates}
+use Rattle.ostore_graph_model.specs.Graph.{empty_graph}
 use Rattle.ostore_graph_model.proofs.SerialHistories.{serial_is_one}
 use Rattle.ostore_try_input.specs.declared.input.TryInput.{TryInput}
-use Rattle.ostore_run_report.specs.declared.results.TxnResult.{TxnResult}
 use Rattle.ostore_run_report.specs.Report.{report}
 use Rattle.ostore_run_report.specs.Results.{committed_of}
 use Rattle.ostore_try_input.specs.Scripts.{script_of}
 use Rattle.ostore_try_input.proofs.InputSaid.{says_one}
-use Rattle.ostore_cli.specs.Promise.{IsReportOf, plain_tail, was_aborted}
+use Rattle.ostore_cli.specs.Promise.{plain_tail, was_aborted}
 use Rattle.ostore_cli.specs.LawsOfReports.{LawOfOneReport}
 use Rattle.ostore_cli.proofs.ResultLaws.{same_names, same_results}
 

@@ -1,6 +1,6 @@
 -- What a command on a member of a variable's object gives, from the look-ups one by one.
-use Rattle.std.proofs.Common.{◌≡◌, ℕ, ℤ, ◌≤◌, filter, Bool, true, false, List, [], ◌∷◌, map, length, get_or, set, refl, sym, ap, ◌∙◌, Option, Some, None, zero, suc, arith}
-use Rattle.std.specs.Prelude.{not, ◌&&◌, ◌||◌, is_some, unwrap_or, pos}
+use Rattle.std.proofs.Common.{◌≡◌, ℕ, ℤ, ◌≤◌, filter, Bool, false, List, [], ◌∷◌, map, length, get_or, set, refl, sym, ap, ◌∙◌, Option, Some, None, arith}
+use Rattle.std.specs.Prelude.{not, ◌&&◌, ◌||◌, is_some, unwrap_or}
 use Rattle.std.proofs.lemmas.List.{get_or-map}
 use Rattle.std.proofs.lemmas.Option.{get_or_from_slice_get}
 use Rattle.std.specs.List.{position, slice_get}
@@ -8,15 +8,14 @@ use Rattle.std.specs.Option.{option_map, option_and_then}
 use Rattle.std.specs.FinMap as maps
 use Rattle.ostore_schema_layout.specs.declared.schema.Schema.{Schema}
 use Rattle.ostore_schema_layout.specs.declared.schema.MemberDef.{MemberDef}
-use Rattle.ostore_schema_layout.specs.declared.schema.TypeNo.{TypeNo}
 use Rattle.ostore_schema_layout.specs.declared.schema.MemberNo.{MemberNo}
 use Rattle.ostore_schema_layout.specs.declared.schema.MemberKind.{MemberKind}
 use Rattle.ostore_schema_layout.specs.declared.schema.MemberKind.TheVariants as kinds
-use Rattle.ostore_schema_layout.specs.Numbers.{place_named, members_of, member_at, member_named, member_of_place}
+use Rattle.ostore_schema_layout.specs.Numbers.{place_named, members_of, member_named, member_of_place}
 use Rattle.ostore_graph_model.specs.declared.values.Name.{Name}
 use Rattle.ostore_graph_model.specs.declared.values.Scalar.{Scalar}
 use Rattle.ostore_graph_model.specs.declared.values.Scalar.TheVariants as scalars
-use Rattle.ostore_graph_model.specs.declared.refusal.Refusal.TheVariants.{NoMember, NoVariable, Dangling, ReadOnly, WrongKind}
+use Rattle.ostore_graph_model.specs.declared.refusal.Refusal.TheVariants.{NoMember, NoVariable, Dangling, ReadOnly}
 use Rattle.ostore_graph_model.specs.declared.values.Reply.TheVariants as replies
 use Rattle.ostore_graph_model.specs.Orders.{name_cmp, TypeMember, Pair, pair_cmp}
 use Rattle.ostore_graph_model.specs.Sets as sets
@@ -24,7 +23,7 @@ use Rattle.ostore_graph_model.specs.Kinds.{is_int, is_single}
 use Rattle.ostore_graph_model.specs.Graph.{Graph, Object}
 use Rattle.ostore_graph_model.specs.Links.{side, far_end, joins_from}
 use Rattle.ostore_graph_model.specs.Paths.{held}
-use Rattle.ostore_graph_model.specs.Deeds.{Vars, Stepped, Deed, LiveMember, refused, refused_where, first_refusal, refused_or, outcome, no_name, no_object, live_member, member_at_type, shown, done}
+use Rattle.ostore_graph_model.specs.Deeds.{Vars, Stepped, Deed, LiveMember, refused, refused_where, first_refusal, refused_or, outcome, no_name, no_object, member_at_type, shown, done}
 use Rattle.ostore_graph_model.specs.Deeds.Objects.{with_value, shown_scalar, shown_partner, get_deed, set_int_deed}
 use Rattle.ostore_graph_model.specs.Step.{member_tests, member_gives}
 use Rattle.ostore_cli.specs.declared.plain.graph.PlainObject.{PlainObject}

@@ -1,7 +1,7 @@
 -- A right answer, printed, keeps the promise.
 use Rattle.std.proofs.Common.{◌≡◌, ℕ, ◌<◌, ◌≤◌, List, length, take, Option, Some, None, refl, sym, ap, subst, ◌∙◌, arith, inl, inr, eqb, false, eq-eqb}
-use Rattle.std.specs.Prelude.{◌≢◌, IfSome, codes}
-use Rattle.std.proofs.lemmas.Bool.{false≢true, cases_lt, lt-leb}
+use Rattle.std.specs.Prelude.{◌≢◌, IfSome}
+use Rattle.std.proofs.lemmas.Bool.{false≢true, cases_lt}
 use Rattle.std.proofs.lemmas.List.{take_all, length-take}
 use Rattle.ostore_job_text.specs.declared.fault.JobFault.TheVariants as faults
 use Rattle.ostore_try_input.specs.declared.reading.fault.TryFault.{TryFault}

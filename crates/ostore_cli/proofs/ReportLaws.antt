@@ -1,32 +1,30 @@
 -- A job that ran has the report that is promised.
-use Rattle.std.proofs.Common.{◌≡◌, ℕ, zero, suc, ◌+◌, ◌-◌, ◌≤◌, Bool, true, false, cond, eqb, List, [], ◌∷◌, ◌++◌, map, length, get_or, drop, Option, Some, None, refl, sym, ap, subst, ◌∙◌, arith}
-use Rattle.std.specs.Prelude.{Any, IsSome, option_and_then, slice_get}
+use Rattle.std.proofs.Common.{◌≡◌, ℕ, zero, suc, ◌+◌, ◌-◌, Bool, true, false, cond, List, [], ◌∷◌, map, length, Option, Some, None, refl, sym, ap, subst, ◌∙◌, arith}
+use Rattle.std.specs.Prelude.{option_and_then, slice_get}
 use Rattle.std.specs.Option.{option_map}
 use Rattle.std.specs.List.{AllByRecursion}
 use Rattle.std.proofs.lemmas.List.Elements.{All-nil}
 use Rattle.std.proofs.lemmas.List.Sorted.{IsPermutation-refl}
-use Rattle.std.proofs.lemmas.Option.{same_Some, slice_get-map}
+use Rattle.std.proofs.lemmas.Option.{slice_get-map}
 use Rattle.std.proofs.Math.Dec.{eqb-suc-zero}
 use Rattle.ostore_schema_layout.specs.declared.schema.Schema.{Schema}
-use Rattle.ostore_schema_layout.specs.declared.schema.TypeDef.{TypeDef}
 use Rattle.ostore_graph_model.specs.declared.commands.Txn.{Txn}
 use Rattle.ostore_graph_model.specs.declared.commands.Script.{Script}
-use Rattle.ostore_graph_model.specs.declared.history.Committed.{Committed}
-use Rattle.ostore_graph_model.specs.Graph.{Graph, empty_graph}
-use Rattle.ostore_graph_model.specs.Transaction.{Ran, transaction}
-use Rattle.ostore_graph_model.specs.History.{txn_at, updates, HasCommitted, IsLegalHistory, AllCommitted}
+use Rattle.ostore_graph_model.specs.Graph.{empty_graph}
+use Rattle.ostore_graph_model.specs.Transaction.{transaction}
+use Rattle.ostore_graph_model.specs.History.{txn_at, updates, HasCommitted, AllCommitted}
 use Rattle.ostore_try_input.specs.declared.input.TryInput.{TryInput}
 use Rattle.ostore_job_text.specs.declared.job.JobClient.{JobClient}
 use Rattle.ostore_run_report.specs.declared.results.TxnResult.{TxnResult}
-use Rattle.ostore_run_report.specs.declared.results.TxnResult.TheVariants.{Commit, Read, Abort}
+use Rattle.ostore_run_report.specs.declared.results.TxnResult.TheVariants.{Abort}
 use Rattle.ostore_run_report.specs.Report.{report}
 use Rattle.ostore_run_report.specs.Results.{committed_of, EndedAtOnce}
 use Rattle.ostore_try_input.specs.Scripts.{script_of}
 use Rattle.ostore_try_input.specs.Spelling.{Says}
 use Rattle.ostore_cli.specs.Promise.{IsReportOf, plain_tail, was_aborted, AbortsAsScripted}
-use Rattle.ostore_cli.specs.inside.Outcomes.{Moment, empty_moment, Outcomes, commits_as, AreBuilt, txn_outcome, with_before, client_outcomes, job_outcomes}
+use Rattle.ostore_cli.specs.inside.Outcomes.{Moment, empty_moment, Outcomes, commits_as, AreBuilt, txn_outcome, client_outcomes, job_outcomes}
 use Rattle.ostore_cli.proofs.RunLaws.{IsRunTo, AreNamed, job_more}
-use Rattle.ostore_cli.proofs.ResultLaws.{IsOf, all_stand}
+use Rattle.ostore_cli.proofs.ResultLaws.{all_stand}
 
 -- ---- how transactions end
 

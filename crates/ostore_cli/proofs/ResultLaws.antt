@@ -1,12 +1,11 @@
 -- What results say of transactions: which committed, that each stands, and that the rest can be told
 -- from the transactions that committed.
-use Rattle.std.proofs.Common.{◌≡◌, ℕ, zero, suc, ◌+◌, ◌<◌, Bool, true, false, cond, List, [], ◌∷◌, ◌++◌, map, length, get_or, Option, Some, None, refl, sym, ap, subst, ◌∙◌, arith}
+use Rattle.std.proofs.Common.{◌≡◌, ℕ, zero, suc, ◌+◌, Bool, true, false, cond, List, [], ◌∷◌, ◌++◌, map, Some, refl, sym, ap, subst, ◌∙◌, arith}
 use Rattle.std.specs.Prelude.{Any, option_and_then, slice_get}
 use Rattle.std.specs.List.{AllByRecursion}
 use Rattle.std.proofs.lemmas.List.{get_or_append_left, map-append, length-append}
 use Rattle.std.proofs.lemmas.Option.{same_Some}
 use Rattle.ostore_base.specs.declared.numbers.ClientNo.{ClientNo}
-use Rattle.ostore_graph_model.specs.declared.values.Reply.{Reply}
 use Rattle.ostore_graph_model.specs.declared.commands.Txn.{Txn}
 use Rattle.ostore_graph_model.specs.declared.history.Committed.{Committed}
 use Rattle.ostore_graph_model.specs.LawsOfHistories.{named_by}

@@ -22,7 +22,7 @@ use Rattle.ostore_graph_model.specs.Graph.{Graph, Object, empty_graph}
 use Rattle.ostore_graph_model.specs.Paths.{held}
 use Rattle.ostore_graph_model.specs.Deeds.{Vars, Stepped, Deed, LiveMember, refused, refused_where, shown, done, outcome}
 use Rattle.ostore_graph_model.specs.Deeds.Objects.{shown_scalar, new_deed, with_value}
-use Rattle.ostore_graph_model.specs.Step.{Line, Task, line_deed, step}
+use Rattle.ostore_graph_model.specs.Step.{Task, line_deed, step}
 use Rattle.ostore_cli.specs.declared.plain.lookup.Found.{Found}
 use Rattle.ostore_cli.specs.declared.plain.graph.PlainObject.{PlainObject}
 use Rattle.ostore_cli.specs.declared.plain.graph.PlainGraph.{PlainGraph}

@@ -1,11 +1,10 @@
 -- An attempt that is committed, and gives its pages back.
-use Rattle.std.proofs.Common.{◌≡◌, ◌≢◌, ◌⊎◌, ℕ, ◌+◌, ◌-◌, ◌*◌, ◌<◌, ◌≤◌, Bool, true, false, cond, eqb, nat_eq, List, [], ◌∷◌, ◌++◌, length, get_or, Option, Some, None, refl, sym, ap, subst, ◌∙◌, arith, inl, inr}
-use Rattle.std.specs.Prelude.{IsSome, IsTrue, slice_get}
+use Rattle.std.proofs.Common.{◌≡◌, ◌≢◌, ℕ, ◌<◌, Bool, true, false, cond, eqb, List, [], length, Option, Some, None, refl, sym, ap, subst, ◌∙◌, arith, inl, inr}
+use Rattle.std.specs.Prelude.{IsSome, slice_get}
 use Rattle.std.specs.Option.{option_map}
 use Rattle.std.proofs.lemmas.Bool.{cases_eq, eq-eqb, ne_eqb, false≢true}
 use Rattle.ostore_base.specs.declared.numbers.PageNo.{PageNo}
 use Rattle.ostore_base.specs.declared.page.PageImage.{PageImage}
-use Rattle.ostore_page_tags.specs.declared.page_header.PageHeader.{PageHeader}
 use Rattle.ostore_page_tags.specs.Header.{header_of}
 use Rattle.ostore_page_tags.proofs.shape.PageShape.{end_in, IsPage-shape}
 use Rattle.ostore_page_tags.proofs.parts.CellLaws.{header_of-same}
@@ -19,8 +18,8 @@ use Rattle.ostore_relocation.proofs.FormLaws.{is_data_same, nine_no_data, pages_
 use Rattle.ostore_relocation.proofs.OutsideLaws.{has_form}
 use Rattle.ostore_address_space.specs.Frames.{AreFrames}
 use Rattle.ostore_redo_journal.specs.Drafts.{Writes}
-use Rattle.ostore_page_service.specs.History.{written, or_else, Agrees, Fits}
-use Rattle.ostore_page_service.specs.Told.{Side, Told, Commits, NoBusy, Numbers, SameRecords, ServesAfter}
+use Rattle.ostore_page_service.specs.History.{or_else}
+use Rattle.ostore_page_service.specs.Told.{Told, Commits, NoBusy, Numbers, SameRecords, ServesAfter}
 use Rattle.ostore_graph_model.specs.declared.commands.Txn.{Txn}
 use Rattle.ostore_graph_model.specs.declared.commands.Script.{Script}
 use Rattle.ostore_graph_model.specs.declared.history.Entry.{Entry}
@@ -31,11 +30,10 @@ use Rattle.ostore_client_cache.specs.declared.entries.Hold.{Hold}
 use Rattle.ostore_client_cache.specs.declared.entries.Hold.TheVariants.{Retained, InUse, Owned}
 use Rattle.ostore_client_cache.specs.Entries.{is_owned, is_owner, is_used}
 use Rattle.ostore_client_core.specs.declared.release.Ending.TheVariants.{Committed}
-use Rattle.ostore_client_core.specs.Kinds.{Names, graph_meaning}
+use Rattle.ostore_client_core.specs.Kinds.{graph_meaning}
 use Rattle.ostore_client_core.specs.Clients.{ClientView, entry_of, stored_image, IsTied, IsTiedBy, IsOwn}
-use Rattle.ostore_client_core.specs.Attempts.{seen, seen_list, IsBase, Attempts, MayBe}
-use Rattle.ostore_client_core.specs.Calls.{is_void}
-use Rattle.ostore_client_core.specs.Commits.{written_by, WritesOwned, FitsFor, FitsClient, Finishes, ServesStill}
+use Rattle.ostore_client_core.specs.Attempts.{seen, seen_list, Attempts}
+use Rattle.ostore_client_core.specs.Commits.{written_by, WritesOwned, FitsClient, Finishes, ServesStill}
 use Rattle.ostore_client_core.specs.inside.Releasing.{EndsWith, IsHeld}
 use Rattle.ostore_client_core.specs.inside.Writing.{AreFitOwned, stored_in}
 use Rattle.ostore_client_core.proofs.EntryLaws.{none_some}

@@ -1,12 +1,12 @@
 -- Lists as a client sees them.
-use Rattle.std.proofs.Common.{◌≡◌, ◌≢◌, ◌⊎◌, ℕ, zero, suc, ◌+◌, ◌<◌, ◌≤◌, Bool, true, false, nat_eq, List, [], ◌∷◌, length, Option, Some, None, refl, sym, ap, subst, ◌∙◌, arith, inl, inr}
+use Rattle.std.proofs.Common.{◌≡◌, ℕ, zero, suc, ◌+◌, ◌≤◌, true, false, List, [], ◌∷◌, length, Option, Some, None, refl, sym, ap, subst, ◌∙◌, arith}
 use Rattle.std.specs.Prelude.{slice_get, IsSome}
 use Rattle.std.specs.Option.{option_map}
 use Rattle.std.proofs.lemmas.Bool.{false≢true}
 use Rattle.ostore_base.specs.declared.page.PageImage.{PageImage}
 use Rattle.ostore_schema_layout.specs.declared.schema.Schema.{Schema}
 use Rattle.ostore_page_service.specs.History.{Agrees}
-use Rattle.ostore_page_service.specs.Told.{Side, Told, SameService, SamePages}
+use Rattle.ostore_page_service.specs.Told.{Told}
 use Rattle.ostore_graph_model.specs.declared.commands.Script.{Script}
 use Rattle.ostore_graph_model.specs.declared.history.Entry.{Entry}
 use Rattle.ostore_graph_model.specs.Valid.{IsValid}
@@ -14,10 +14,10 @@ use Rattle.ostore_client_cache.specs.declared.entries.CachedPage.{CachedPage}
 use Rattle.ostore_client_cache.specs.declared.entries.Hold.{Hold}
 use Rattle.ostore_client_cache.specs.declared.entries.Hold.TheVariants.{Retained, InUse, Owned}
 use Rattle.ostore_client_cache.specs.Entries.{is_used, is_in_use}
-use Rattle.ostore_client_core.specs.Clients.{ClientView, entry_of, stored_image, IsOwn}
-use Rattle.ostore_client_core.specs.Attempts.{seen_as, seen_entry, seen, seen_from, seen_list, IsBase, Attempts, MayBe, Narrows}
+use Rattle.ostore_client_core.specs.Clients.{ClientView, entry_of, stored_image}
+use Rattle.ostore_client_core.specs.Attempts.{seen_as, seen_entry, seen, seen_from, seen_list, IsBase, Attempts, Narrows}
 use Rattle.ostore_client_core.proofs.TiedLaws.{held_used, used_held}
-use Rattle.ostore_client_core.proofs.GoesLaws.{GoesOn, Extends, KeepsPage, same_stored, goes_own}
+use Rattle.ostore_client_core.proofs.GoesLaws.{GoesOn, KeepsPage, same_stored, goes_own}
 
 -- lists with equal images at each place are equal
 pub same_get : {X : Type 0} (xs ys : List X) → ((k : ℕ) → slice_get xs k ≡ slice_get ys k) → xs ≡ ys

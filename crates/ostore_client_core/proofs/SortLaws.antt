@@ -1,6 +1,5 @@
 -- The pages in use, in ascending order.
-use Rattle.std.proofs.Common.{◌≡◌, ◌↔◌, ◌≤◌, ◌<◌, ℕ, Bool, true, false, nat_eq, List, length, map, get_or, Option, Some, None, refl, sym, ap, subst, ◌∙◌, arith}
-use Rattle.std.specs.Prelude.{IsSome}
+use Rattle.std.proofs.Common.{◌≡◌, ◌↔◌, ◌≤◌, ◌<◌, ℕ, Bool, true, false, nat_eq, List, get_or, Option, Some, None, refl, sym, ap, subst, ◌∙◌, arith}
 use Rattle.std.specs.List.{AllPairs, All, Contains, IsDistinct}
 use Rattle.std.specs.List.Sorted.{IsPermutation, IsSortedByKey, IsNonDecreasing, IsNonDecreasingBy}
 use Rattle.std.specs.Ordering.{nat_cmp}

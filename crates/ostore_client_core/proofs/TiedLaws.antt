@@ -1,5 +1,5 @@
 -- What a client and its service have of a page that neither changes.
-use Rattle.std.proofs.Common.{◌≡◌, ℕ, Bool, true, false, Option, Some, None, refl, sym, ap, subst, ◌∙◌}
+use Rattle.std.proofs.Common.{◌≡◌, ℕ, true, Option, Some, None, refl, sym, ap, subst, ◌∙◌}
 use Rattle.std.specs.Prelude.{IsSome}
 use Rattle.ostore_base.specs.declared.page.PageImage.{PageImage}
 use Rattle.ostore_page_service.specs.Told.{Side}
@@ -9,7 +9,7 @@ use Rattle.ostore_client_cache.specs.declared.entries.Hold.TheVariants.{Retained
 use Rattle.std.proofs.lemmas.Bool.{false≢true}
 use Rattle.ostore_graph_model.specs.declared.history.Entry.{Entry}
 use Rattle.ostore_client_cache.specs.Entries.{is_used, is_in_use}
-use Rattle.ostore_client_core.specs.Clients.{IsAbsent, IsRetained, IsTaken, IsTheOwner, IsTiedBy, IsTied}
+use Rattle.ostore_client_core.specs.Clients.{IsTiedBy, IsTied}
 
 -- the service holds of a page what it held
 pub record SameAt {E : Type 0} (old new : Side E) (page : ℕ) : Type 0 where

@@ -1,5 +1,5 @@
 -- A commit: what an attempt writes, and when its entry fits.
-use Rattle.std.specs.Prelude.{◌≡◌, ◌<◌, ◌≢◌, ℕ, Bool, true, false, if◌then◌else◌, List, [], ◌∷◌, ◌++◌, Option, Some, None, All}
+use Rattle.std.specs.Prelude.{◌≡◌, ◌<◌, ℕ, true, false, if◌then◌else◌, List, [], ◌∷◌, ◌++◌, Option, Some, None, All}
 use Rattle.std.specs.Option.{option_map}
 use Rattle.ostore_base.specs.declared.page.PageImage.{PageImage}
 use Rattle.ostore_redo_journal.specs.Drafts.{Writes}

@@ -1,7 +1,6 @@
 -- Commands: what is spelled is read.
-use Rattle.std.proofs.Common.{◌≡◌, ℕ, List, [], ◌∷◌, codes, decimal, Option, Result, Ok, refl, ap, ◌∙◌}
-use Rattle.ostore_text_words.specs.Lines.{PlacedWord, PlacedLine}
-use Rattle.ostore_text_words.specs.LineWords.{◌>>=◌, word_at, says_at, identifier_at, if_ended}
+use Rattle.std.proofs.Common.{◌≡◌, ℕ, List, [], ◌∷◌, decimal, Option, Ok}
+use Rattle.ostore_text_words.specs.Lines.{PlacedLine}
 use Rattle.ostore_text_words.proofs.LineWordLaws.{bare_at, identifier_again, ended_again}
 use Rattle.ostore_graph_model.specs.declared.values.Name.{Name}
 use Rattle.ostore_graph_model.specs.declared.commands.Command.{Command}

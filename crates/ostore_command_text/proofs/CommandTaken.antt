@@ -1,19 +1,18 @@
 -- Commands: what is read is spelled so.
-use Rattle.std.proofs.Common.{◌≡◌, ℕ, suc, ◌≤◌, Bool, true, false, cond, IsTrue, List, [], ◌∷◌, ◌++◌, length, map, codes, decimal, Option, Some, None, Result, Ok, Err, refl, sym, ap, subst, ◌∙◌, arith, inl, inr}
+use Rattle.std.proofs.Common.{◌≡◌, ℕ, suc, ◌≤◌, cond, List, [], ◌∷◌, ◌++◌, length, codes, decimal, Option, Some, None, Result, Ok, Err, refl, sym, ap, subst, ◌∙◌, arith, inl, inr}
 use Rattle.std.specs.Prelude.{FitsSigned}
 use Rattle.std.specs.Fmt.{signed_decimal}
 use Rattle.std.specs.Int.{w64}
-use Rattle.std.specs.List.{AllByRecursion, flat_map}
+use Rattle.std.specs.List.{AllByRecursion}
 use Rattle.std.specs.Str.{bytes_eq}
 use Rattle.std.proofs.lemmas.List.{append-nil}
-use Rattle.std.proofs.lemmas.Option.{same_Some, some_pair_parts}
-use Rattle.ostore_text_words.specs.Words.{◌>>=◌ as ◌>>?◌, after_byte, around_byte, identifier_at as ident_at, dotted_at, is_identifier, int_at, count_at, quoted, quoted_at, name_at, begins_quoted}
+use Rattle.std.proofs.lemmas.Option.{same_Some}
+use Rattle.ostore_text_words.specs.Words.{◌>>=◌ as ◌>>?◌, after_byte, around_byte, identifier_at as ident_at, dotted_at, int_at, count_at, quoted, quoted_at, name_at, begins_quoted}
 use Rattle.ostore_text_words.specs.Lines.{PlacedWord, PlacedLine}
-use Rattle.ostore_text_words.specs.LineWords.{◌>>=◌, or_at, word_at, says_at, identifier_at, if_ended}
+use Rattle.ostore_text_words.specs.LineWords.{◌>>=◌, word_at, says_at, identifier_at, if_ended}
 use Rattle.ostore_text_words.proofs.WordLaws.{bind_some, identifier_taken as ident_taken, after_byte_taken, around_byte_taken, dotted_taken, int_taken, count_taken}
 use Rattle.ostore_text_words.proofs.QuotedLaws.{quoted_taken}
 use Rattle.ostore_text_words.proofs.LineWordLaws.{bind_ok, same_ok, chosen, bytes_are, bare_at, word_taken, says_taken, identifier_taken, ended_taken}
-use Rattle.ostore_graph_model.specs.declared.values.Name.{Name}
 use Rattle.ostore_graph_model.specs.declared.commands.Command.{Command}
 use Rattle.ostore_graph_model.specs.declared.commands.Command.TheVariants as commands
 use Rattle.ostore_graph_model.specs.declared.commands.Operand.{Operand}

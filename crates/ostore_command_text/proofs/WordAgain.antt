@@ -1,5 +1,5 @@
 -- Single words: what is spelled is read.
-use Rattle.std.proofs.Common.{◌≡◌, ℕ, suc, ◌≤◌, ◌<◌, ◌^◌, Bool, true, false, ◌&&◌, not, leb, IsTrue, eqb, List, [], ◌∷◌, ◌++◌, length, get_or, codes, decimal, Option, Some, None, Result, Ok, Err, ℤ, pos, negsuc, refl, sym, ap, subst, ◌∙◌, arith, inl, inr}
+use Rattle.std.proofs.Common.{◌≡◌, ℕ, suc, ◌≤◌, true, false, ◌&&◌, not, leb, eqb, List, [], ◌∷◌, ◌++◌, length, get_or, codes, decimal, Option, Some, None, Result, Ok, ℤ, pos, negsuc, refl, sym, ap, subst, ◌∙◌, arith, inl, inr}
 use Rattle.std.specs.Prelude.{FitsSigned}
 use Rattle.std.specs.Char.{is_ascii_alphabetic}
 use Rattle.std.specs.Fmt.{signed_decimal}
@@ -11,9 +11,9 @@ use Rattle.std.proofs.lemmas.Bool.{and_parts, cases_Bool, eqb-true, ne_eqb, fals
 use Rattle.std.proofs.lemmas.Fmt.{decimal_is_IsNumeral}
 use Rattle.std.proofs.lemmas.List.{append-nil}
 use Rattle.std.proofs.lemmas.Str.Parse.{digit_at}
-use Rattle.ostore_text_words.specs.Words.{around_byte, is_identifier, is_reserved, is_name_byte, begins_as_name, begins_quoted, dotted, int_at, quoted, quoted_at, name_at}
-use Rattle.ostore_text_words.specs.Lines.{PlacedWord, PlacedLine}
-use Rattle.ostore_text_words.specs.LineWords.{word_at, says_at}
+use Rattle.ostore_text_words.specs.Words.{around_byte, is_identifier, is_reserved, is_name_byte, begins_as_name, begins_quoted, int_at, quoted, quoted_at, name_at}
+use Rattle.ostore_text_words.specs.Lines.{PlacedLine}
+use Rattle.ostore_text_words.specs.LineWords.{says_at}
 use Rattle.ostore_text_words.proofs.WordLaws.{identifier_again as ident_again, around_name, dotted_again, int_again, count_again}
 use Rattle.ostore_text_words.proofs.QuotedLaws.{quoted_again, name_again as named_again}
 use Rattle.ostore_text_words.proofs.LineWordLaws.{bare_at, bytes_are, word_again, says_again}
@@ -26,7 +26,7 @@ use Rattle.ostore_graph_model.specs.declared.commands.Op.{Op}
 use Rattle.ostore_graph_model.specs.declared.commands.Op.TheVariants as ops
 use Rattle.ostore_command_text.specs.CommandWords.{variable, place, name_word, path_word, operand_word, key_word, op_word, item_word}
 use Rattle.ostore_command_text.specs.WordsSaid.{variable_of, place_of, segment_of, index_of, op_of, last_of, later_of, path_of, parted_by}
-use Rattle.ostore_command_text.specs.CommandsSaid.{variable_at, place_at, name_of_parts, begins_variable, operand_at, text_operand_at, var_operand_at, int_operand_at, key_at, text_key_at, int_key_at, item_at, var_item_at}
+use Rattle.ostore_command_text.specs.CommandsSaid.{variable_at, place_at, begins_variable, operand_at, text_operand_at, var_operand_at, int_operand_at, key_at, text_key_at, int_key_at, item_at, var_item_at}
 use Rattle.ostore_command_text.specs.LawfulCommands.{IsIdent, IsLawfulName, IsLawfulText, IsLawfulOperand, IsLawfulKey, IsLawfulItem, IsLawfulPath, IsLawfulPlace}
 
 -- ---- bytes that no identifier has

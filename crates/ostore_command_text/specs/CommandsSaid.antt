@@ -1,10 +1,10 @@
 -- What the line of a command says. Words are judged one after the other, and the fault is at the first that can't
 -- stand, and at the end of the line where a word is missing.
-use Rattle.std.specs.Prelude.{ℕ, Bool, true, false, if◌then◌else◌, ◌==◌, List, [], ◌∷◌, drop, codes, Option, Some, None, Result, Ok, Err}
+use Rattle.std.specs.Prelude.{ℕ, Bool, false, if◌then◌else◌, ◌==◌, List, [], ◌∷◌, codes, Option, Some, None, Result, Ok, Err}
 use Rattle.std.specs.Str.{bytes_eq}
-use Rattle.ostore_text_words.specs.Words.{begins_quoted, int_at, quoted_at, name_at, may_stand}
-use Rattle.ostore_text_words.specs.Lines.{PlacedWord, PlacedLine}
-use Rattle.ostore_text_words.specs.LineWords.{◌>>=◌, or_at, word_at, says_at, identifier_at, if_ended}
+use Rattle.ostore_text_words.specs.Words.{begins_quoted, int_at, quoted_at, name_at}
+use Rattle.ostore_text_words.specs.Lines.{PlacedLine}
+use Rattle.ostore_text_words.specs.LineWords.{◌>>=◌, word_at, says_at, identifier_at, if_ended}
 use Rattle.ostore_graph_model.specs.declared.values.Name.{Name}
 use Rattle.ostore_graph_model.specs.declared.commands.Command.{Command}
 use Rattle.ostore_graph_model.specs.declared.commands.Command.TheVariants as commands
@@ -12,7 +12,6 @@ use Rattle.ostore_graph_model.specs.declared.commands.Operand.{Operand}
 use Rattle.ostore_graph_model.specs.declared.commands.Operand.TheVariants as operands
 use Rattle.ostore_graph_model.specs.declared.commands.Key.{Key}
 use Rattle.ostore_graph_model.specs.declared.commands.Key.TheVariants as keys
-use Rattle.ostore_graph_model.specs.declared.commands.Op.{Op}
 use Rattle.ostore_command_text.specs.WordsSaid.{variable_of, place_of, segment_of, index_of, op_of, path_of}
 
 -- ---- words

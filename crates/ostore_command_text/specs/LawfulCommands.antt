@@ -1,9 +1,9 @@
 -- Which commands are lawful: those that a line can spell. Each name is an identifier, and each number within its limits.
-use Rattle.std.specs.Prelude.{◌≢◌, ℕ, ◌<◌, ◌≤◌, IsTrue, nat_le, List, length, codes, FitsSigned, Option, Some, None}
+use Rattle.std.specs.Prelude.{ℕ, ◌≤◌, IsTrue, nat_le, List, length, FitsSigned, Option, Some, None}
 use Rattle.std.specs.Int.{w64}
 use Rattle.std.specs.List.{list_all, AllByRecursion}
 use Rattle.std.specs.Str.{IsUtf8}
-use Rattle.ostore_base.specs.Limits.{most_segments, most_clients, most_pages}
+use Rattle.ostore_base.specs.Limits.{most_segments}
 use Rattle.ostore_text_words.specs.Words.{is_identifier, greatest_serial}
 use Rattle.ostore_graph_model.specs.declared.values.Name.{Name}
 use Rattle.ostore_graph_model.specs.declared.commands.Command.{Command}
@@ -12,7 +12,6 @@ use Rattle.ostore_graph_model.specs.declared.commands.Operand.{Operand}
 use Rattle.ostore_graph_model.specs.declared.commands.Operand.TheVariants as operands
 use Rattle.ostore_graph_model.specs.declared.commands.Key.{Key}
 use Rattle.ostore_graph_model.specs.declared.commands.Key.TheVariants as keys
-use Rattle.ostore_graph_model.specs.declared.commands.Txn.{Txn}
 use Rattle.ostore_command_text.specs.Limits.{greatest_index}
 
 abbrev pub IsIdent : List ℕ → Type 0

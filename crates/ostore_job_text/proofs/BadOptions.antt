@@ -1,17 +1,16 @@
 -- The first bad option of a client's line: that it is bad, and that no other bad one stands before it.
-use Rattle.std.proofs.Common.{◌≡◌, ◌≢◌, ◌⊎◌, ℕ, ◌+◌, ◌≤◌, Bool, true, false, ◌&&◌, ◌||◌, not, cond, List, [], ◌∷◌, ◌++◌, map, codes, Option, Some, None, refl, sym, ap, subst, ◌∙◌, arith, inl, inr}
+use Rattle.std.proofs.Common.{◌≡◌, ◌⊎◌, ℕ, ◌+◌, ◌≤◌, Bool, true, false, ◌&&◌, ◌||◌, not, cond, List, [], ◌∷◌, ◌++◌, codes, Option, Some, None, refl, sym, ap, subst, ◌∙◌, arith, inl, inr}
 use Rattle.std.specs.Str.{bytes_eq}
 use Rattle.std.proofs.lemmas.Bool.{and_parts, cases_Bool, false≢true, not-true}
 use Rattle.std.proofs.lemmas.Option.{same_Some}
 use Rattle.ostore_base.specs.Limits.{most_pages}
 use Rattle.ostore_text_words.specs.Words.{◌>>=◌ as ◌>>?◌, count_at}
-use Rattle.ostore_text_words.proofs.WordLaws.{bind_some}
 use Rattle.ostore_text_words.proofs.LineWordLaws.{bytes_are, bytes_same, chosen}
 use Rattle.ostore_job_text.specs.declared.said.OptionSaid.{OptionSaid}
 use Rattle.ostore_job_text.specs.Limits.{most_tries, most_frames}
 use Rattle.ostore_job_text.specs.LawfulJob.{Setting, tries, cache, frames, setting_name, setting_most}
 use Rattle.ostore_job_text.specs.Drafted.{option_limit, option_number, is_there, is_repeated, is_good_option, bad_option}
-use Rattle.ostore_job_text.specs.FaultsOf.{IsOneOf, IsUnknown, IsRepeated, IsOutOfLimits, IsBadOption, HasBadOption}
+use Rattle.ostore_job_text.specs.FaultsOf.{IsUnknown, IsRepeated, IsOutOfLimits, IsBadOption, HasBadOption}
 use Rattle.ostore_job_text.proofs.OptionAgain.{setting_limit}
 
 pub true_false : {P : Type 0} (b : Bool) → b ≡ true → b ≡ false → P

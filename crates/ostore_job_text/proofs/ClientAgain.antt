@@ -1,18 +1,14 @@
 -- Clients: what is spelled is read.
-use Rattle.std.proofs.Common.{◌≡◌, ◌≢◌, ℕ, ◌+◌, ◌<◌, ◌≤◌, Bool, true, false, not, leb, ltb, cond, List, [], ◌∷◌, ◌++◌, length, map, codes, Option, Some, None, Ok, refl, sym, ap, subst, ◌∙◌, append_assoc, arith, inl, inr}
+use Rattle.std.proofs.Common.{◌≡◌, ◌≢◌, ℕ, ◌<◌, ◌≤◌, Bool, false, ltb, cond, List, [], ◌∷◌, ◌++◌, length, codes, Option, Some, None, Ok, refl, sym, ap, subst, ◌∙◌, append_assoc, arith, inl, inr}
 use Rattle.std.specs.List.{AllByRecursion, flat_map, position_or_len}
 use Rattle.std.specs.Str.{bytes_eq}
 use Rattle.std.proofs.lemmas.Bool.{cases_Bool, le-ltb, lt-leb, cond-false}
 use Rattle.std.proofs.lemmas.List.{append-nil, length-append}
 use Rattle.ostore_text_words.specs.Lines.{PlacedLine, bare_lines}
-use Rattle.ostore_text_words.specs.LineWords.{◌>>=◌}
 use Rattle.ostore_text_words.proofs.LineWordLaws.{bare_at, bytes_are, identifier_again}
 use Rattle.ostore_schema_layout.specs.Cells.{ArePairwise}
-use Rattle.ostore_graph_model.specs.declared.commands.Command.{Command}
-use Rattle.ostore_graph_model.specs.declared.commands.Txn.{Txn}
 use Rattle.ostore_job_text.specs.declared.job.JobClient.{JobClient}
 use Rattle.ostore_job_text.specs.declared.job.JobTurn.{JobTurn}
-use Rattle.ostore_job_text.specs.declared.said.OptionSaid.{OptionSaid}
 use Rattle.ostore_job_text.specs.declared.said.ClientSaid.{ClientSaid}
 use Rattle.ostore_job_text.specs.declared.said.LineSaid.{LineSaid}
 use Rattle.ostore_job_text.specs.declared.said.LineSaid.TheVariants as kinds
@@ -20,12 +16,12 @@ use Rattle.ostore_job_text.specs.declared.said.Stand.{Stand}
 use Rattle.ostore_job_text.specs.declared.said.Stand.TheVariants as stands
 use Rattle.ostore_job_text.specs.declared.reading.draft.Draft.{Draft}
 use Rattle.ostore_job_text.specs.Canonical.{txn_lines}
-use Rattle.ostore_job_text.specs.LawfulJob.{Setting, tries, cache, frames, setting_name, setting_default, setting_of, IsLawfulClient}
+use Rattle.ostore_job_text.specs.LawfulJob.{Setting, tries, cache, frames, setting_name, setting_default, IsLawfulClient}
 use Rattle.ostore_job_text.specs.JobSpelling.{setting_words, IsClientLine, AreClientLines}
-use Rattle.ostore_job_text.specs.LinesSaid.{client_of, options_of, words_from, client_at, at_start_at, in_client_at, said_at, stand_after}
+use Rattle.ostore_job_text.specs.LinesSaid.{client_of, words_from, client_at, at_start_at, in_client_at, said_at}
 use Rattle.ostore_job_text.specs.Drafted.{bad_option, number_given, opened, place_of_client, client_fault, with_txns, closed, put_client, unless_fault, put_line, put}
 use Rattle.ostore_job_text.proofs.LineTaken.{bare_from_drop}
-use Rattle.ostore_job_text.proofs.LineAgain.{First, first_line, by_verb, after, line_step, faultless, txns_again, last_update}
+use Rattle.ostore_job_text.proofs.LineAgain.{first_line, by_verb, after, line_step, faultless, txns_again, last_update}
 use Rattle.ostore_job_text.proofs.OptionAgain.{SaySettings, options_again, pairwise_before, none_bad, number_again}
 
 -- ---- the first line

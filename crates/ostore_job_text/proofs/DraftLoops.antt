@@ -1,11 +1,11 @@
 -- Lines that are put together one after the other, as the loop of the reader does.
-use Rattle.std.proofs.Common.{◌≡◌, ℕ, ◌+◌, ◌<◌, ◌≤◌, Bool, true, false, cond, List, [], ◌∷◌, ◌++◌, length, get_or, take, drop, Option, Some, None, Result, Ok, Err, ◌⊎◌, inl, inr, refl, sym, ap, ◌∙◌, arith}
+use Rattle.std.proofs.Common.{◌≡◌, ℕ, ◌+◌, ◌<◌, ◌≤◌, true, false, cond, List, [], ◌∷◌, ◌++◌, length, get_or, take, drop, Some, None, Result, Ok, Err, refl, sym, ap, ◌∙◌, arith}
 use Rattle.std.proofs.lemmas.Bool.{false≢true}
 use Rattle.std.proofs.lemmas.List.{drop_more, take_more}
 use Rattle.std.proofs.Math.ListN.{drop_of_length-le}
 use Rattle.ostore_text_words.specs.declared.fault.TextFault.{TextFault}
 use Rattle.ostore_text_words.specs.Gives.{Fails}
-use Rattle.ostore_text_words.specs.Lines.{PlacedLine, LinesAhead, has_line}
+use Rattle.ostore_text_words.specs.Lines.{PlacedLine, has_line}
 use Rattle.ostore_text_words.specs.LineWords.{◌>>=◌, line_at}
 use Rattle.ostore_job_text.specs.declared.said.LineSaid.{LineSaid}
 use Rattle.ostore_job_text.specs.declared.said.EntrySaid.{EntrySaid}

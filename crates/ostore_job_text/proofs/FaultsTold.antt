@@ -1,5 +1,5 @@
 -- What a text is read as is a fault exactly where the text has it, first of all that it has.
-use Rattle.std.proofs.Common.{◌≡◌, ◌⊎◌, ℕ, ◌+◌, ◌<◌, ◌≤◌, Bool, true, false, leb, cond, List, [], length, drop, Option, Some, None, Result, Ok, Err, refl, sym, ap, subst, ◌∙◌, arith, inl, inr}
+use Rattle.std.proofs.Common.{◌≡◌, ◌⊎◌, ℕ, ◌+◌, ◌<◌, ◌≤◌, leb, List, [], length, drop, Option, Some, None, Result, Ok, Err, refl, sym, ap, subst, ◌∙◌, arith, inl, inr}
 use Rattle.std.specs.Prelude.{◌↔◌, IfErr}
 use Rattle.std.proofs.lemmas.Bool.{cases_lt, cond-true, cond-false, le-leb, lt-leb}
 use Rattle.ostore_text_words.specs.Lines.{lines_on, utf8_fault}
@@ -9,12 +9,11 @@ use Rattle.ostore_job_text.specs.declared.job.Job.{Job}
 use Rattle.ostore_job_text.specs.declared.said.LineSaid.{LineSaid}
 use Rattle.ostore_job_text.specs.declared.said.Stand.TheVariants as stands
 use Rattle.ostore_job_text.specs.declared.reading.draft.Draft.{Draft}
-use Rattle.ostore_job_text.specs.JobFaults.{fault_number, fault_place}
 use Rattle.ostore_job_text.specs.Limits.{longest_text}
 use Rattle.ostore_job_text.specs.LinesSaid.{said_from}
 use Rattle.ostore_job_text.specs.Drafted.{empty_draft, closed, put_all, if_faultless, job_of, finished}
 use Rattle.ostore_job_text.specs.ParsedJob.{with_draft, drafted, job_drafted, if_utf8, parsed_from, parsed_job, IsOrMemory}
-use Rattle.ostore_job_text.specs.FaultsOf.{HasFault, IsBefore, IsFirstFault, IsTooLong, HasBadByte, IsReadable, HasBadWord, HasBadName, IsFaultFrom, IsFaultOf, IsFaultOrMemory}
+use Rattle.ostore_job_text.specs.FaultsOf.{HasFault, IsBefore, IsFirstFault, IsReadable, IsFaultFrom, IsFaultOf, IsFaultOrMemory}
 use Rattle.ostore_job_text.proofs.NamedFaults.{Tells, lines_told}
 use Rattle.ostore_job_text.proofs.RisingLines.{text_rises}
 

@@ -1,21 +1,18 @@
 -- Jobs: what is spelled is read.
-use Rattle.std.proofs.Common.{◌≡◌, ℕ, ◌≤◌, false, leb, List, [], ◌∷◌, ◌++◌, length, drop, Some, None, Result, Ok, Err, refl, sym, ap, subst, ◌∙◌, inl, inr}
-use Rattle.std.specs.Str.{IsUtf8, is_utf8}
+use Rattle.std.proofs.Common.{◌≡◌, ℕ, ◌≤◌, false, List, [], ◌++◌, length, drop, Result, Ok, Err, refl, sym, ap, ◌∙◌, inl, inr}
+use Rattle.std.specs.Str.{IsUtf8}
 use Rattle.std.proofs.lemmas.Bool.{le-leb}
 use Rattle.std.proofs.lemmas.Str.{is_utf8-from_IsUtf8}
-use Rattle.ostore_text_words.specs.Lines.{PlacedLine, bare_lines, lines_on, utf8_fault}
+use Rattle.ostore_text_words.specs.Lines.{PlacedLine, bare_lines, lines_on}
 use Rattle.ostore_job_text.specs.declared.fault.JobFault.{JobFault}
-use Rattle.ostore_job_text.specs.declared.fault.JobFault.TheVariants as faults
 use Rattle.ostore_job_text.specs.declared.job.Job.{Job}
 use Rattle.ostore_job_text.specs.declared.said.Stand.{Stand}
 use Rattle.ostore_job_text.specs.declared.said.Stand.TheVariants as stands
-use Rattle.ostore_job_text.specs.declared.reading.draft.Draft.{Draft}
 use Rattle.ostore_job_text.specs.Limits.{longest_text}
 use Rattle.ostore_job_text.specs.LawfulJob.{IsLawfulJob}
 use Rattle.ostore_job_text.specs.JobSpelling.{AreClientLines, AreTurnsLines, SpellsJob}
-use Rattle.ostore_job_text.specs.Drafted.{empty_draft, closed, settled, finished}
+use Rattle.ostore_job_text.specs.Drafted.{empty_draft, closed, settled}
 use Rattle.ostore_job_text.specs.ParsedJob.{drafted, job_drafted, parsed_from, parsed_job, IsOrMemory, IsOkOrMemory}
-use Rattle.ostore_job_text.proofs.LineAgain.{after, faultless}
 use Rattle.ostore_job_text.proofs.ClientAgain.{IsOpen, Holds, clients_again}
 use Rattle.ostore_job_text.proofs.JobPart.{part_lines}
 use Rattle.ostore_job_text.proofs.TurnAgain.{IsOutside, turns_again}

@@ -1,5 +1,5 @@
 -- The lines of a part of a text are those of the part by itself, but for their places.
-use Rattle.std.proofs.Common.{◌≡◌, ℕ, zero, suc, ◌+◌, ◌-◌, ◌<◌, ◌≤◌, Bool, true, false, eqb, leb, ltb, cond, List, [], ◌∷◌, length, map, filter, take, drop, refl, sym, ap, ◌∙◌, arith, inl, inr}
+use Rattle.std.proofs.Common.{◌≡◌, ℕ, zero, suc, ◌+◌, ◌-◌, ◌≤◌, Bool, true, false, eqb, leb, ltb, cond, List, [], ◌∷◌, length, map, filter, take, drop, refl, sym, ap, ◌∙◌, arith, inl, inr}
 use Rattle.std.specs.List.{slice_split, list_all}
 use Rattle.std.proofs.lemmas.Bool.{cases_lt, cond-true, le-leb}
 use Rattle.std.proofs.lemmas.List.{length-map}

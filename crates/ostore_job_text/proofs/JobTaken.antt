@@ -1,23 +1,20 @@
 -- A job that is read is spelled so.
-use Rattle.std.proofs.Common.{◌≡◌, ℕ, ◌+◌, ◌≤◌, Bool, true, false, cond, leb, List, length, drop, Option, Some, None, Result, Ok, Err, refl, sym, ap, subst, ◌∙◌, arith}
-use Rattle.std.specs.Prelude.{IfOk}
+use Rattle.std.proofs.Common.{◌≡◌, ℕ, ◌≤◌, Bool, true, false, cond, leb, List, length, drop, Option, Some, None, Result, Ok, Err, refl, ap, subst, ◌∙◌, arith}
 use Rattle.std.specs.Str.{IsUtf8, is_utf8}
 use Rattle.std.proofs.lemmas.Bool.{leb-true}
 use Rattle.std.proofs.lemmas.List.{length-drop}
 use Rattle.std.proofs.lemmas.Str.{IsUtf8-from_is_utf8}
-use Rattle.ostore_text_words.specs.Lines.{PlacedLine, lines_on, bare_lines, word_lines, utf8_fault}
-use Rattle.ostore_text_words.specs.LineWords.{◌>>=◌}
+use Rattle.ostore_text_words.specs.Lines.{lines_on, utf8_fault}
 use Rattle.ostore_text_words.proofs.LineWordLaws.{bind_ok, same_ok}
 use Rattle.ostore_job_text.specs.declared.fault.JobFault.{JobFault}
 use Rattle.ostore_job_text.specs.declared.fault.JobFault.TheVariants as faults
 use Rattle.ostore_job_text.specs.declared.job.Job.{Job}
-use Rattle.ostore_job_text.specs.declared.said.LineSaid.{LineSaid}
 use Rattle.ostore_job_text.specs.declared.said.Stand.TheVariants as stands
 use Rattle.ostore_job_text.specs.declared.reading.draft.Draft.{Draft}
 use Rattle.ostore_job_text.specs.Limits.{longest_text}
 use Rattle.ostore_job_text.specs.LinesSaid.{said_from}
 use Rattle.ostore_job_text.specs.Drafted.{empty_draft, put_all, finished}
-use Rattle.ostore_job_text.specs.ParsedJob.{with_draft, drafted, job_drafted, if_utf8, parsed_from, parsed_job, IsOrMemory}
+use Rattle.ostore_job_text.specs.ParsedJob.{drafted, job_drafted, if_utf8, parsed_from}
 use Rattle.ostore_job_text.specs.inside.LinesSpelled.{AreLinesOf, LinesSay}
 use Rattle.ostore_job_text.proofs.LineTaken.{lines_taken}
 use Rattle.ostore_job_text.proofs.JobPart.{part_lines}

@@ -3,8 +3,8 @@ use Rattle.std.proofs.Common.{◌≡◌, ℕ, Bool, true, false, cond, List, [],
 use Rattle.std.specs.List.{AllByRecursion, flat_map}
 use Rattle.std.specs.Str.{bytes_eq}
 use Rattle.std.proofs.lemmas.List.{append-nil}
-use Rattle.ostore_text_words.specs.Lines.{PlacedWord, PlacedLine, bare_words, bare_lines}
-use Rattle.ostore_text_words.specs.LineWords.{◌>>=◌, word_at, if_ended}
+use Rattle.ostore_text_words.specs.Lines.{PlacedLine, bare_words, bare_lines}
+use Rattle.ostore_text_words.specs.LineWords.{word_at, if_ended}
 use Rattle.ostore_text_words.proofs.LineWordLaws.{bind_again, bare_at, bare_from_first, word_again, ended_again}
 use Rattle.ostore_graph_model.specs.declared.commands.Command.{Command}
 use Rattle.ostore_graph_model.specs.declared.commands.Command.TheVariants as commands
@@ -16,7 +16,7 @@ use Rattle.ostore_job_text.specs.declared.said.LineSaid.TheVariants as kinds
 use Rattle.ostore_job_text.specs.declared.said.Stand.{Stand}
 use Rattle.ostore_job_text.specs.declared.said.Stand.TheVariants as stands
 use Rattle.ostore_job_text.specs.declared.reading.draft.Draft.{Draft}
-use Rattle.std.specs.Prelude.{Option, Some, None}
+use Rattle.std.specs.Prelude.{Option, None}
 use Rattle.ostore_command_text.specs.CommandWords.{command_words}
 use Rattle.ostore_job_text.specs.Canonical.{begin_line, end_line, txn_lines}
 use Rattle.ostore_command_text.specs.LawfulCommands.{IsLawfulCommand}

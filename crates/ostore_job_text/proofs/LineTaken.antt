@@ -1,15 +1,13 @@
 -- Lines: what is read is spelled so.
-use Rattle.std.proofs.Common.{◌≡◌, ℕ, zero, suc, ◌≤◌, Bool, true, false, cond, IsTrue, List, [], ◌∷◌, ◌++◌, length, map, drop, codes, decimal, Option, Some, None, Result, Ok, Err, refl, sym, ap, subst, ◌∙◌, arith, inl, inr}
+use Rattle.std.proofs.Common.{◌≡◌, ℕ, zero, suc, ◌≤◌, true, false, List, [], ◌∷◌, ◌++◌, length, map, drop, codes, decimal, Option, Some, None, Ok, Err, refl, sym, ap, subst, ◌∙◌, arith, inl, inr}
 use Rattle.std.specs.List.{AllByRecursion, flat_map}
-use Rattle.std.specs.Str.{bytes_eq}
 use Rattle.std.proofs.lemmas.List.{length-map}
 use Rattle.std.proofs.lemmas.Option.{same_Some}
 use Rattle.ostore_text_words.specs.Words.{◌>>=◌ as ◌>>?◌, around_byte, identifier_at as ident_at, count_at, may_stand}
 use Rattle.ostore_text_words.specs.Lines.{PlacedWord, PlacedLine, bare_words, bare_lines}
 use Rattle.ostore_text_words.specs.LineWords.{◌>>=◌, or_at, word_at, identifier_at, if_ended}
 use Rattle.ostore_text_words.proofs.WordLaws.{bind_some, identifier_taken as ident_taken, around_byte_taken, count_taken}
-use Rattle.ostore_text_words.proofs.LineWordLaws.{bind_ok, same_ok, or_at_ok, chosen, bytes_are, bare_from, bare_at, bare_from_first, word_taken, identifier_taken, ended_taken}
-use Rattle.ostore_graph_model.specs.declared.commands.Command.{Command}
+use Rattle.ostore_text_words.proofs.LineWordLaws.{bind_ok, same_ok, or_at_ok, chosen, bare_from, bare_at, bare_from_first, word_taken, identifier_taken, ended_taken}
 use Rattle.ostore_job_text.specs.declared.said.OptionSaid.{OptionSaid}
 use Rattle.ostore_job_text.specs.declared.said.EntrySaid.{EntrySaid}
 use Rattle.ostore_job_text.specs.declared.said.LineSaid.{LineSaid}

@@ -1,13 +1,11 @@
 -- The first fault of what lines name: that they have it, and that every other one is told behind it.
-use Rattle.std.proofs.Common.{◌≡◌, ◌≢◌, ◌⊎◌, ℕ, zero, suc, ◌+◌, ◌<◌, ◌≤◌, Bool, true, false, not, leb, ltb, cond, List, [], ◌∷◌, ◌++◌, length, map, slice_get, Option, Some, None, Result, Ok, Err, refl, sym, ap, subst, ◌∙◌, arith, inl, inr}
+use Rattle.std.proofs.Common.{◌≡◌, ◌≢◌, ◌⊎◌, ℕ, zero, suc, ◌+◌, ◌<◌, ◌≤◌, Bool, true, false, leb, cond, List, [], ◌∷◌, ◌++◌, length, map, slice_get, Option, Some, None, refl, sym, ap, subst, ◌∙◌, arith, inl, inr}
 use Rattle.std.specs.Prelude.{option_map}
 use Rattle.std.specs.List.{AllByRecursion}
-use Rattle.std.specs.Str.{bytes_eq}
 use Rattle.std.proofs.lemmas.Bool.{cases_Bool, cases_lt, false≢true, leb-true, le-leb}
 use Rattle.std.proofs.lemmas.List.{length-map, map-append}
 use Rattle.std.proofs.lemmas.Option.{same_Some}
 use Rattle.ostore_base.specs.Limits.{most_clients}
-use Rattle.ostore_text_words.proofs.LineWordLaws.{chosen}
 use Rattle.ostore_graph_model.specs.declared.commands.Command.{Command}
 use Rattle.ostore_graph_model.specs.declared.commands.Txn.{Txn}
 use Rattle.ostore_job_text.specs.declared.fault.JobFault.{JobFault}
@@ -18,9 +16,9 @@ use Rattle.ostore_job_text.specs.declared.said.EntrySaid.{EntrySaid}
 use Rattle.ostore_job_text.specs.declared.said.LineSaid.{LineSaid}
 use Rattle.ostore_job_text.specs.declared.said.LineSaid.TheVariants as kinds
 use Rattle.ostore_job_text.specs.declared.reading.draft.Draft.{Draft}
-use Rattle.ostore_job_text.specs.JobFaults.{fault_number, fault_place}
-use Rattle.ostore_job_text.specs.Drafted.{is_there, bad_option, opened, with_txns, place_of_client, client_fault, entry_fault, unless_there, first_fault, closed_clients, closed, put_client, put_begin, put_command, put_end, unless_fault, with_entry, put_entry, put_entries, put_line, put, put_all}
-use Rattle.ostore_job_text.specs.FaultsOf.{IsOneOf, IsNamed, HasBadOption, HasClientFault, HasEntryFault, HasTurnsFault, HasFault, IsBefore, IsFirstFault}
+use Rattle.ostore_job_text.specs.JobFaults.{fault_place}
+use Rattle.ostore_job_text.specs.Drafted.{is_there, bad_option, opened, with_txns, place_of_client, client_fault, entry_fault, unless_there, first_fault, closed_clients, closed, put_client, put_begin, put_command, put_end, unless_fault, with_entry, put_entry, put_entries, put_line, put_all}
+use Rattle.ostore_job_text.specs.FaultsOf.{IsOneOf, IsNamed, HasBadOption, HasClientFault, HasEntryFault, HasTurnsFault, HasFault, IsBefore}
 use Rattle.ostore_job_text.proofs.BadOptions.{true_false, OptionsRise, options_least, options_until, TellsOption, options_told}
 use Rattle.ostore_job_text.proofs.ClientAgain.{put_faultless}
 use Rattle.ostore_job_text.proofs.DraftTaken.{all_stuck, named_client, new_client}

@@ -1,7 +1,7 @@
 -- The options of a client's line: what is spelled is read.
-use Rattle.std.proofs.Common.{◌≡◌, ◌≢◌, ℕ, ◌+◌, ◌/◌, ◌%◌, ◌^◌, ◌<◌, ◌≤◌, ◌⊎◌, Bool, true, false, ◌&&◌, not, eqb, leb, ltb, cond, List, [], ◌∷◌, ◌++◌, length, map, codes, decimal, Option, Some, None, Result, Ok, Err, refl, sym, ap, subst, ◌∙◌, append_assoc, arith, inl, inr}
+use Rattle.std.proofs.Common.{◌≡◌, ◌≢◌, ℕ, ◌+◌, ◌/◌, ◌%◌, ◌^◌, ◌<◌, ◌≤◌, ◌⊎◌, Bool, true, false, ◌&&◌, not, eqb, leb, ltb, List, [], ◌∷◌, ◌++◌, length, map, decimal, Some, None, Result, Ok, refl, sym, ap, subst, ◌∙◌, append_assoc, arith, inl, inr}
 use Rattle.std.specs.Char.{is_ascii_digit}
-use Rattle.std.specs.List.{AllByRecursion, flat_map, list_all, list_any, find}
+use Rattle.std.specs.List.{AllByRecursion, flat_map, list_all, find}
 use Rattle.std.specs.Str.{bytes_eq}
 use Rattle.std.proofs.lemmas.Bool.{and_from, lt-ltb, le-leb, ne_eqb}
 use Rattle.std.proofs.lemmas.Fmt.{decimal_by_steps}
@@ -17,7 +17,7 @@ use Rattle.ostore_job_text.specs.declared.job.JobClient.{JobClient}
 use Rattle.ostore_job_text.specs.declared.said.OptionSaid.{OptionSaid}
 use Rattle.ostore_job_text.specs.WordsSaid.{has_leading_zero, is_count}
 use Rattle.ostore_job_text.specs.LinesSaid.{option_of, options_of}
-use Rattle.ostore_job_text.specs.Drafted.{option_limit, option_number, is_repeated, is_good_option, bad_option, or_default, number_given}
+use Rattle.ostore_job_text.specs.Drafted.{option_limit, option_number, is_repeated, bad_option, or_default, number_given}
 use Rattle.ostore_job_text.specs.LawfulJob.{Setting, tries, cache, frames, setting_name, setting_default, setting_most, setting_of, IsLawfulSetting}
 use Rattle.ostore_job_text.specs.JobSpelling.{setting_words}
 

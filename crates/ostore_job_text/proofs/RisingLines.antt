@@ -1,5 +1,5 @@
 -- What lines say stands at places that rise, as the words of the lines do.
-use Rattle.std.proofs.Common.{◌≡◌, ℕ, zero, suc, ◌+◌, ◌<◌, ◌≤◌, Bool, true, false, eqb, leb, cond, List, [], ◌∷◌, ◌++◌, length, map, filter, drop, slice_get, codes, Option, Some, None, Result, Ok, Err, refl, sym, ap, subst, ◌∙◌, append_assoc, arith, inl, inr}
+use Rattle.std.proofs.Common.{◌≡◌, ℕ, ◌+◌, ◌≤◌, true, false, eqb, leb, List, [], ◌∷◌, ◌++◌, length, map, filter, drop, slice_get, codes, Some, Ok, Err, sym, ap, subst, ◌∙◌, append_assoc, arith, inl, inr}
 use Rattle.std.specs.List.{slice_split}
 use Rattle.std.specs.Str.{bytes_eq}
 use Rattle.std.proofs.lemmas.Bool.{cases_lt, cond-true, le-leb}
@@ -8,7 +8,7 @@ use Rattle.std.proofs.lemmas.Option.{same_Some}
 use Rattle.ostore_text_words.specs.Words.{may_stand}
 use Rattle.ostore_text_words.specs.Lines.{PlacedWord, PlacedLine, PlacedBytes, line_of, has_words, bytes_from, bytes_on, lines_on}
 use Rattle.ostore_text_words.specs.LineWords.{◌>>=◌, or_at, word_at, identifier_at, if_ended}
-use Rattle.ostore_text_words.proofs.LineReaders.{span, span_split, bytes_on_none}
+use Rattle.ostore_text_words.proofs.LineReaders.{span_split, bytes_on_none}
 use Rattle.ostore_text_words.proofs.LineWordLaws.{bind_ok, same_ok, or_at_ok, chosen, identifier_taken, ended_taken}
 use Rattle.ostore_text_words.proofs.PlaceLaws.{RiseWithin, RiseWithin-later, places, lines_rise}
 use Rattle.ostore_job_text.specs.declared.said.OptionSaid.{OptionSaid}

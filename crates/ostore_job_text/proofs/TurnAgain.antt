@@ -1,21 +1,16 @@
 -- Lines `turns`: what is spelled is read.
-use Rattle.std.proofs.Common.{◌≡◌, ◌≢◌, ◌⊎◌, ℕ, zero, suc, ◌+◌, ◌<◌, ◌≤◌, Bool, true, false, not, ltb, cond, List, [], ◌∷◌, ◌++◌, length, map, slice_get, codes, decimal, Option, Some, None, Result, Ok, refl, sym, ap, subst, ◌∙◌, append_assoc, arith, inl, inr}
+use Rattle.std.proofs.Common.{◌≡◌, ◌≢◌, ◌⊎◌, ℕ, zero, suc, ◌<◌, ◌≤◌, Bool, ltb, cond, List, [], ◌∷◌, ◌++◌, length, map, slice_get, codes, decimal, Option, Some, None, Ok, refl, sym, ap, subst, ◌∙◌, append_assoc, arith, inl, inr}
 use Rattle.std.specs.Prelude.{min}
 use Rattle.std.specs.List.{AllByRecursion, position_or_len}
 use Rattle.std.specs.Str.{bytes_eq}
 use Rattle.std.proofs.lemmas.Bool.{lt-ltb, cond-true}
 use Rattle.std.proofs.lemmas.List.{append-nil}
-use Rattle.ostore_base.specs.declared.numbers.ClientNo.{ClientNo}
-use Rattle.ostore_text_words.specs.Words.{around_byte}
 use Rattle.ostore_text_words.specs.Lines.{PlacedWord, PlacedLine, bare_lines}
-use Rattle.ostore_text_words.specs.LineWords.{◌>>=◌, or_at, word_at}
 use Rattle.ostore_text_words.proofs.WordLaws.{count_again}
-use Rattle.ostore_text_words.proofs.LineWordLaws.{bind_again, bare_at, bytes_same, word_again}
-use Rattle.ostore_schema_layout.specs.Cells.{ArePairwise}
+use Rattle.ostore_text_words.proofs.LineWordLaws.{bare_at, bytes_same, word_again}
 use Rattle.ostore_job_text.specs.declared.job.JobClient.{JobClient}
 use Rattle.ostore_job_text.specs.declared.job.JobTurn.{JobTurn}
 use Rattle.ostore_job_text.specs.declared.said.EntrySaid.{EntrySaid}
-use Rattle.ostore_job_text.specs.declared.said.LineSaid.{LineSaid}
 use Rattle.ostore_job_text.specs.declared.said.LineSaid.TheVariants as kinds
 use Rattle.ostore_job_text.specs.declared.said.Stand.{Stand}
 use Rattle.ostore_job_text.specs.declared.said.Stand.TheVariants as stands
@@ -25,12 +20,11 @@ use Rattle.ostore_command_text.specs.LawfulCommands.{IsIdent}
 use Rattle.ostore_job_text.specs.LawfulJob.{IsLawfulClient, IsLawfulTurn}
 use Rattle.ostore_job_text.specs.JobSpelling.{IsEntryWord, AreEntryWords, IsTurnsLine, AreTurnsLines}
 use Rattle.ostore_job_text.specs.WordsSaid.{entry_of}
-use Rattle.ostore_job_text.specs.LinesSaid.{words_from, entry_said, entries_of, turns_at, in_turns_at, at_start_at, in_client_at, said_at, said_from, ends_at}
-use Rattle.ostore_job_text.specs.Drafted.{place_of_client, client_of_place, turn_of, entry_fault, closed, put_entry, put_entries, put_line, put, put_all}
+use Rattle.ostore_job_text.specs.LinesSaid.{words_from, entry_said, entries_of, turns_at, in_turns_at, at_start_at, in_client_at, said_at, said_from}
+use Rattle.ostore_job_text.specs.Drafted.{place_of_client, client_of_place, turn_of, closed, put_entry, put_entries, put, put_all}
 use Rattle.ostore_job_text.proofs.LineTaken.{bare_from_drop}
 use Rattle.ostore_command_text.proofs.WordAgain.{no_mark, at_star}
-use Rattle.ostore_text_words.proofs.WordLaws.{identifier_again as ident_again}
-use Rattle.ostore_job_text.proofs.LineAgain.{First, first_line, by_verb, after, line_step, faultless}
+use Rattle.ostore_job_text.proofs.LineAgain.{first_line, by_verb, after, line_step, faultless}
 use Rattle.ostore_job_text.proofs.ClientAgain.{AreApart, Holds, other_name, put_faultless}
 
 -- ---- the client that an entry names

@@ -1,17 +1,17 @@
 -- Options and entries read one after the other, as the loops of the reader do.
-use Rattle.std.proofs.Common.{◌≡◌, ℕ, zero, suc, ◌+◌, ◌<◌, ◌≤◌, Bool, true, false, cond, List, [], ◌∷◌, ◌++◌, length, map, drop, slice_get, Option, Some, None, Result, Ok, Err, refl, sym, ap, ◌∙◌, append_assoc, arith}
+use Rattle.std.proofs.Common.{◌≡◌, ℕ, zero, suc, ◌+◌, ◌<◌, ◌≤◌, Bool, true, false, cond, List, [], ◌∷◌, ◌++◌, length, drop, slice_get, Result, Ok, Err, refl, sym, ap, ◌∙◌, append_assoc, arith}
 use Rattle.std.proofs.lemmas.List.{append-nil}
 use Rattle.std.proofs.Math.ListN.{drop_of_length-le}
 use Rattle.ostore_text_words.specs.declared.fault.TextFault.{TextFault}
 use Rattle.ostore_text_words.specs.declared.fault.TextFault.TheVariants as texts
-use Rattle.ostore_text_words.specs.Gives.{Fails, GivesSame}
+use Rattle.ostore_text_words.specs.Gives.{Fails}
 use Rattle.ostore_text_words.specs.Words.{may_stand}
 use Rattle.ostore_text_words.specs.Lines.{PlacedWord, PlacedLine}
 use Rattle.ostore_text_words.specs.LineWords.{◌>>=◌, or_at, word_at, any_at}
 use Rattle.ostore_job_text.specs.declared.said.OptionSaid.{OptionSaid}
 use Rattle.ostore_job_text.specs.declared.said.EntrySaid.{EntrySaid}
 use Rattle.ostore_job_text.specs.WordsSaid.{is_count, entry_of}
-use Rattle.ostore_job_text.specs.LinesSaid.{option_of, options_of, words_from, entry_said, entries_of}
+use Rattle.ostore_job_text.specs.LinesSaid.{option_of, options_of, entry_said, entries_of}
 use Rattle.ostore_job_text.specs.inside.WordLoops.{count_at, option_at, entry_at}
 
 -- ---- any list that is read

@@ -1,24 +1,13 @@
 -- Which jobs are lawful: those that a text can spell. Each name is an identifier, each number within its limits,
 -- each quoted text UTF-8, no two clients have one name, and each entry of `turns` names a client.
-use Rattle.std.specs.Prelude.{◌≢◌, ℕ, ◌<◌, ◌≤◌, IsTrue, nat_le, List, length, codes, FitsSigned, Option, Some, None}
-use Rattle.std.specs.Int.{w64}
-use Rattle.std.specs.List.{list_all, AllByRecursion}
-use Rattle.std.specs.Str.{IsUtf8}
-use Rattle.ostore_base.specs.Limits.{most_segments, most_clients, most_pages}
-use Rattle.ostore_text_words.specs.Words.{is_identifier, greatest_serial}
+use Rattle.std.specs.Prelude.{◌≢◌, ℕ, ◌<◌, ◌≤◌, List, length, codes}
+use Rattle.std.specs.List.{AllByRecursion}
+use Rattle.ostore_base.specs.Limits.{most_clients, most_pages}
 use Rattle.ostore_schema_layout.specs.Cells.{ArePairwise}
-use Rattle.ostore_graph_model.specs.declared.values.Name.{Name}
-use Rattle.ostore_graph_model.specs.declared.commands.Command.{Command}
-use Rattle.ostore_graph_model.specs.declared.commands.Command.TheVariants as commands
-use Rattle.ostore_graph_model.specs.declared.commands.Operand.{Operand}
-use Rattle.ostore_graph_model.specs.declared.commands.Operand.TheVariants as operands
-use Rattle.ostore_graph_model.specs.declared.commands.Key.{Key}
-use Rattle.ostore_graph_model.specs.declared.commands.Key.TheVariants as keys
 use Rattle.ostore_graph_model.specs.declared.commands.Txn.{Txn}
 use Rattle.ostore_job_text.specs.declared.job.Job.{Job}
 use Rattle.ostore_job_text.specs.declared.job.JobClient.{JobClient}
 use Rattle.ostore_job_text.specs.declared.job.JobTurn.{JobTurn}
-use Rattle.ostore_command_text.specs.Limits.{greatest_index}
 use Rattle.ostore_job_text.specs.Limits.{default_tries, default_cache, default_frames, most_tries, most_frames, most_turns}
 use Rattle.ostore_command_text.specs.LawfulCommands.{IsIdent, IsLawfulCommand, IsUtf8Command}
 

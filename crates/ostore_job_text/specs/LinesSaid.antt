@@ -1,19 +1,11 @@
 -- What the lines of a job say. Words are judged one after the other, and the fault is at the first that can't
 -- stand, at the end of the line where a word is missing, and at the end of the text where a line is missing.
 -- What is named and what is allowed is judged later.
-use Rattle.std.specs.Prelude.{ℕ, Bool, true, false, if◌then◌else◌, ◌==◌, List, [], ◌∷◌, drop, codes, Option, Some, None, Result, Ok, Err}
+use Rattle.std.specs.Prelude.{ℕ, true, false, if◌then◌else◌, List, [], ◌∷◌, drop, codes, Result, Ok, Err}
 use Rattle.std.specs.Str.{bytes_eq}
-use Rattle.ostore_text_words.specs.Words.{begins_quoted, int_at, quoted_at, name_at, may_stand}
+use Rattle.ostore_text_words.specs.Words.{may_stand}
 use Rattle.ostore_text_words.specs.Lines.{PlacedWord, PlacedLine}
-use Rattle.ostore_text_words.specs.LineWords.{◌>>=◌, or_at, word_at, says_at, identifier_at, if_ended}
-use Rattle.ostore_graph_model.specs.declared.values.Name.{Name}
-use Rattle.ostore_graph_model.specs.declared.commands.Command.{Command}
-use Rattle.ostore_graph_model.specs.declared.commands.Command.TheVariants as commands
-use Rattle.ostore_graph_model.specs.declared.commands.Operand.{Operand}
-use Rattle.ostore_graph_model.specs.declared.commands.Operand.TheVariants as operands
-use Rattle.ostore_graph_model.specs.declared.commands.Key.{Key}
-use Rattle.ostore_graph_model.specs.declared.commands.Key.TheVariants as keys
-use Rattle.ostore_graph_model.specs.declared.commands.Op.{Op}
+use Rattle.ostore_text_words.specs.LineWords.{◌>>=◌, or_at, word_at, identifier_at, if_ended}
 use Rattle.ostore_job_text.specs.declared.said.OptionSaid.{OptionSaid}
 use Rattle.ostore_job_text.specs.declared.said.ClientSaid.{ClientSaid}
 use Rattle.ostore_job_text.specs.declared.said.EntrySaid.{EntrySaid}
@@ -21,7 +13,6 @@ use Rattle.ostore_job_text.specs.declared.said.LineSaid.{LineSaid}
 use Rattle.ostore_job_text.specs.declared.said.LineSaid.TheVariants as kinds
 use Rattle.ostore_job_text.specs.declared.said.Stand.{Stand}
 use Rattle.ostore_job_text.specs.declared.said.Stand.TheVariants as stands
-use Rattle.ostore_command_text.specs.WordsSaid.{variable_of, place_of, segment_of, index_of, op_of, path_of}
 use Rattle.ostore_job_text.specs.WordsSaid.{is_count, entry_of}
 use Rattle.ostore_command_text.specs.CommandsSaid.{command_by}
 

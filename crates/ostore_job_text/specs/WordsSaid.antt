@@ -1,14 +1,8 @@
 -- What single words of a client's line and of a line `turns` say, or nothing where they are no such word.
-use Rattle.std.specs.Prelude.{ℕ, ◌-◌, ◌^◌, Bool, false, ◌&&◌, not, nat_lt, ◌==◌, if◌then◌else◌, List, [], ◌∷◌, codes, length, Option, Some, None}
+use Rattle.std.specs.Prelude.{ℕ, Bool, false, ◌&&◌, not, nat_lt, ◌==◌, List, [], ◌∷◌, length, Option, Some, None}
 use Rattle.std.specs.Char.{is_ascii_digit}
 use Rattle.std.specs.List.{list_all}
-use Rattle.std.specs.Str.{bytes_eq}
-use Rattle.ostore_base.specs.Limits.{most_segments}
-use Rattle.ostore_text_words.specs.Words.{◌>>=◌, after_byte, around_byte, identifier_at, dotted_at, count_at, name_at}
-use Rattle.ostore_graph_model.specs.declared.values.Name.{Name}
-use Rattle.ostore_graph_model.specs.declared.commands.Op.{Op}
-use Rattle.ostore_graph_model.specs.declared.commands.Op.TheVariants as ops
-use Rattle.ostore_command_text.specs.Limits.{greatest_index}
+use Rattle.ostore_text_words.specs.Words.{◌>>=◌, around_byte, identifier_at, count_at}
 use Rattle.ostore_job_text.specs.Limits.{most_turns}
 
 -- ---- counts of any size, and entries of `turns`

@@ -1,7 +1,6 @@
 -- What reads and writes of ints make of a command.
-use Rattle.std.proofs.Common.{◌≡◌, ◌∙◌, ◌+◌, ◌≤◌, ℕ, ℤ, Bool, true, false, List, [], ◌∷◌, length, map, refl, ap, sym, subst, arith, inl, inr, Option, Some, None}
-use Rattle.std.specs.Prelude.{not, IsTrue}
-use Rattle.std.specs.List.{slice_get}
+use Rattle.std.proofs.Common.{◌≡◌, ◌∙◌, ℕ, ℤ, Bool, true, false, List, [], ◌∷◌, refl, ap, sym, subst, arith, inl, inr, Option, Some}
+use Rattle.std.specs.Prelude.{not}
 use Rattle.std.specs.Option.{option_map, option_and_then}
 use Rattle.std.specs.FinMap as maps
 use Rattle.std.proofs.lemmas.Bool.{cases_eq}
@@ -12,13 +11,11 @@ use Rattle.ostore_schema_layout.specs.declared.schema.Schema.{Schema}
 use Rattle.ostore_schema_layout.specs.declared.schema.MemberDef.{MemberDef}
 use Rattle.ostore_schema_layout.specs.declared.schema.MemberKind.{MemberKind}
 use Rattle.ostore_schema_layout.specs.declared.schema.MemberKind.TheVariants as kinds
-use Rattle.ostore_schema_layout.specs.declared.layouts.Place.{Place}
 use Rattle.ostore_schema_layout.specs.Cells.{places_from}
 use Rattle.ostore_schema_layout.specs.Numbers.{members_of}
 use Rattle.ostore_segments.specs.declared.placement.NoSpace.{NoSpace}
 use Rattle.ostore_graph_model.specs.declared.values.Scalar.{Scalar}
 use Rattle.ostore_graph_model.specs.declared.values.Scalar.TheVariants as scalars
-use Rattle.ostore_graph_model.specs.declared.values.Value.{Value}
 use Rattle.ostore_graph_model.specs.declared.values.Value.TheVariants as values
 use Rattle.ostore_graph_model.specs.declared.values.Reply.{Reply}
 use Rattle.ostore_graph_model.specs.declared.values.Reply.TheVariants as replies
@@ -30,16 +27,16 @@ use Rattle.ostore_graph_model.specs.declared.commands.Operand.TheVariants as ope
 use Rattle.ostore_graph_model.specs.Kinds.{is_int, is_single, is_collection}
 use Rattle.ostore_graph_model.specs.Graph.{Graph, Object}
 use Rattle.ostore_graph_model.specs.Paths.{held, scalar_of}
-use Rattle.ostore_graph_model.specs.Deeds.{Vars, Stepped, LiveMember, refused, refused_where, first_refusal, refused_or, shown, done, member_at_type}
+use Rattle.ostore_graph_model.specs.Deeds.{Vars, refused, refused_where, first_refusal, refused_or, shown, done}
 use Rattle.ostore_graph_model.specs.Deeds.Objects.{get_deed, set_int_deed, value_of, shown_scalar, with_held}
 use Rattle.ostore_graph_model.specs.Step.{step, Steps}
 use Rattle.ostore_graph_model.specs.Addresses.{PlacedCell, cell_at}
-use Rattle.ostore_graph_model.specs.MemberValues.{value_in, held_at, values_in}
+use Rattle.ostore_graph_model.specs.MemberValues.{value_in, held_at}
 use Rattle.ostore_graph_model.specs.LawsOfIndexes.{HasNoIndexable}
 use Rattle.ostore_graph_model.specs.LawsOfMeaning.{HoldGraph, LeavesGraph}
 use Rattle.ostore_graph_model.specs.Valid.{IsValid}
 use Rattle.ostore_graph_model.specs.StandsFor.{StandsFor}
-use Rattle.ostore_graph_model.specs.PageEdits.{EditsAt, WritesInt, name_of, member_of}
+use Rattle.ostore_graph_model.specs.PageEdits.{EditsAt, WritesInt, name_of}
 use Rattle.ostore_graph_model.proofs.AddressLaws.{placed_with, cell_at-edited_other, cell_at-edited_same}
 use Rattle.ostore_graph_model.proofs.IndexLaws.{no_indexes_law}
 use Rattle.ostore_graph_model.proofs.UndeclaredLaw.{undeclared_law}
@@ -48,7 +45,7 @@ use Rattle.ostore_object_ops.specs.declared.lookup.Found.{Found}
 use Rattle.ostore_object_ops.specs.Means.{Leads, Means, HasMeaning}
 use Rattle.ostore_object_ops.specs.Suits.{IsOfInts}
 use Rattle.ostore_object_ops.specs.Executes.{TakesAtMost, LacksSpace, Executes}
-use Rattle.ostore_object_ops.specs.inside.Members.{address_of, object_in, member_in, member_deed, on_member, IsMember, HasInt, StoresInt, RefusesMember}
+use Rattle.ostore_object_ops.specs.inside.Members.{address_of, object_in, member_in, IsMember, HasInt, StoresInt, RefusesMember}
 use Rattle.ostore_object_ops.proofs.IntSchemas.{ints_here}
 use Rattle.ostore_object_ops.proofs.LeadFacts.{KeepsLeads, KeepsRows, name_kept, means_kept}
 

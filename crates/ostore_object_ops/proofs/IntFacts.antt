@@ -1,5 +1,5 @@
 -- The int of a member that was found: what is read of it, and what a write of it does.
-use Rattle.std.proofs.Common.{◌≡◌, ◌≢◌, ◌∙◌, ℕ, ℤ, ◌+◌, ◌-◌, ◌*◌, ◌<◌, ◌≤◌, Bool, true, List, [], length, get_or, take, drop, refl, ap, ap₂, sym, subst, subst₂, arith, inl, inr, Option, Some}
+use Rattle.std.proofs.Common.{◌≡◌, ◌∙◌, ℕ, ℤ, ◌+◌, ◌-◌, ◌<◌, ◌≤◌, true, List, length, drop, refl, ap, ap₂, sym, subst, subst₂, arith, inl, inr, Option, Some}
 use Rattle.std.specs.Prelude.{FitsSigned}
 use Rattle.std.specs.Int.{w64, cast_signed, cast_unsigned}
 use Rattle.std.specs.List.{slice_get, AllByRecursion, Contains}
@@ -13,7 +13,7 @@ use Rattle.ostore_page_tags.specs.declared.page_header.PageHeader.{PageHeader}
 use Rattle.ostore_page_tags.specs.declared.tag_rows.Row.{Row}
 use Rattle.ostore_page_tags.specs.Header.{header_of}
 use Rattle.ostore_page_tags.specs.Numbers.{number_at, int_at, with_int}
-use Rattle.ostore_page_tags.specs.Rows.{row_in, row_at}
+use Rattle.ostore_page_tags.specs.Rows.{row_in}
 use Rattle.ostore_page_tags.specs.Cells.{Cell, between, cells_of}
 use Rattle.ostore_page_tags.specs.Changes.{EditsCell}
 use Rattle.ostore_page_tags.specs.PagePointers.{IsBeside}
@@ -32,9 +32,8 @@ use Rattle.ostore_segments.specs.Edits.{HasBytesInCell}
 use Rattle.ostore_segments.specs.SchemaCells.{size_told}
 use Rattle.ostore_segments.proofs.PutLaws.{edited_length, edited_here, edited_other}
 use Rattle.ostore_relocation.specs.Fitness.{HasCells}
-use Rattle.ostore_graph_model.specs.Addresses.{PlacedCell, placed, cell_at}
+use Rattle.ostore_graph_model.specs.Addresses.{PlacedCell}
 use Rattle.ostore_graph_model.specs.Records.{is_sized}
-use Rattle.ostore_graph_model.specs.PageEdits.{EditsAt}
 use Rattle.ostore_graph_model.proofs.MemberEdits.{cell_sized, place_within}
 use Rattle.ostore_object_ops.specs.declared.lookup.Found.{Found}
 use Rattle.ostore_object_ops.specs.inside.Members.{address_of, HasInt, StoresInt}

@@ -12,7 +12,7 @@ use Rattle.ostore_graph_model.specs.Graph.{Graph}
 use Rattle.ostore_graph_model.specs.Deeds.{Vars}
 use Rattle.ostore_graph_model.specs.Addresses.{PlacedCell, cell_at}
 use Rattle.ostore_graph_model.specs.PageEdits.{name_of}
-use Rattle.ostore_object_ops.specs.Means.{Leads, LeadsToRow, LeadsToName, Means}
+use Rattle.ostore_object_ops.specs.Means.{Leads, LeadsToName, Means}
 
 -- variables that led somewhere lead there, and the others to nothing
 pub record KeepsLeads (before after : Leads) : Type 0 where

@@ -1,10 +1,9 @@
 -- What a command on a member works on, by the row that its variable leads to.
-use Rattle.std.proofs.Common.{◌≡◌, ℕ, ◌+◌, ◌*◌, ◌≤◌, ◌<◌, Bool, true, false, length, List, refl, sym, ap, subst, ◌∙◌, arith, Option, Some, None, inl, inr}
-use Rattle.std.specs.Prelude.{not, ◌&&◌, ◌||◌, nat_le, IsSome}
+use Rattle.std.proofs.Common.{◌≡◌, ℕ, ◌+◌, ◌*◌, ◌≤◌, ◌<◌, true, false, length, List, refl, sym, ap, subst, ◌∙◌, arith, Option, Some, None, inl, inr}
+use Rattle.std.specs.Prelude.{IsSome}
 use Rattle.std.specs.List.{slice_get}
-use Rattle.std.specs.Option.{option_map}
 use Rattle.std.specs.FinMap as maps
-use Rattle.std.proofs.lemmas.Option.{same_Some, none-some}
+use Rattle.std.proofs.lemmas.Option.{same_Some}
 use Rattle.ostore_base.specs.declared.page.PageImage.{PageImage}
 use Rattle.ostore_page_tags.specs.Rules.{is_type_code, IsPage}
 use Rattle.ostore_page_tags.specs.Rows.{row_in, row_at}
@@ -13,8 +12,6 @@ use Rattle.ostore_page_tags.specs.Cells.{Cell}
 use Rattle.ostore_page_tags.specs.PageLists.{bytes_at, header_at}
 use Rattle.ostore_schema_layout.specs.declared.schema.Schema.{Schema}
 use Rattle.ostore_schema_layout.specs.declared.schema.MemberDef.{MemberDef}
-use Rattle.ostore_schema_layout.specs.declared.schema.TypeNo.{TypeNo}
-use Rattle.ostore_schema_layout.specs.declared.layouts.Place.{Place}
 use Rattle.ostore_schema_layout.specs.Cells.{HasCode, places_from, pointers_of}
 use Rattle.ostore_schema_layout.specs.Numbers.{members_of, member_named}
 use Rattle.ostore_segments.specs.Seen.{IsSeenAs}

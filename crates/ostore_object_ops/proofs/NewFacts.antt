@@ -1,11 +1,11 @@
 -- What a made object makes of `new`.
-use Rattle.std.proofs.Common.{◌≡◌, ◌≢◌, ◌∙◌, ◌+◌, ◌-◌, ◌*◌, ◌<◌, ◌≤◌, ℕ, zero, suc, Bool, true, false, cond, List, [], ◌∷◌, length, refl, ap, ap₂, sym, subst, subst₂, arith, inl, inr, Option, Some, None}
-use Rattle.std.specs.Prelude.{◌%◌, not, nat_lt, is_none, unwrap_or, IsTrue, ◌↔◌}
-use Rattle.std.specs.List.{All, slice_get, Contains}
+use Rattle.std.proofs.Common.{◌≡◌, ◌≢◌, ◌∙◌, ◌+◌, ◌*◌, ◌<◌, ◌≤◌, ℕ, suc, Bool, true, false, cond, List, [], ◌∷◌, length, refl, ap, ap₂, sym, subst, subst₂, arith, Option, Some, None}
+use Rattle.std.specs.Prelude.{◌%◌, not, nat_lt, is_none, unwrap_or}
+use Rattle.std.specs.List.{All, slice_get}
 use Rattle.std.specs.Option.{option_map, option_or}
 use Rattle.std.specs.Ordering.{eq_by_cmp}
 use Rattle.std.specs.FinMap as maps
-use Rattle.std.proofs.lemmas.Bool.{le-ltb, lt-ltb, le-leb, and_from, true≢false}
+use Rattle.std.proofs.lemmas.Bool.{le-ltb, lt-ltb, le-leb, and_from}
 use Rattle.std.proofs.lemmas.Cmp.{nat_list_cmp_total}
 use Rattle.std.proofs.lemmas.Option.{none-some, same_Some}
 use Rattle.ostore_base.specs.declared.page.PageImage.{PageImage}
@@ -20,7 +20,7 @@ use Rattle.ostore_schema_layout.specs.declared.schema.Schema.{Schema}
 use Rattle.ostore_schema_layout.specs.declared.schema.TypeDef.{TypeDef}
 use Rattle.ostore_schema_layout.specs.declared.schema.TypeNo.{TypeNo}
 use Rattle.ostore_schema_layout.specs.Cells.{IsType, cell_size, code_size}
-use Rattle.ostore_schema_layout.specs.Numbers.{type_at, members_of, members_of_found, type_named}
+use Rattle.ostore_schema_layout.specs.Numbers.{members_of, members_of_found, type_named}
 use Rattle.ostore_schema_layout.specs.Lawful.{IsLawful}
 use Rattle.ostore_schema_layout.proofs.lawful.LawfulLawsPlaces.{type_there, stands}
 use Rattle.ostore_schema_layout.proofs.places.LayoutLaws.{fours_cell_size, least_cell_size, lawful_cell_size}
@@ -41,14 +41,14 @@ use Rattle.ostore_graph_model.specs.declared.commands.Command.TheVariants as com
 use Rattle.ostore_graph_model.specs.Kinds.{no_type}
 use Rattle.ostore_graph_model.specs.Orders.{text_cmp}
 use Rattle.ostore_graph_model.specs.Graph.{Graph, last_serial}
-use Rattle.ostore_graph_model.specs.Deeds.{Vars, Stepped, refused, refused_where, refused_or}
+use Rattle.ostore_graph_model.specs.Deeds.{Vars, Stepped, refused_where, refused_or}
 use Rattle.ostore_graph_model.specs.Deeds.Objects.{drawn, new_object, with_new, greatest_serial, next_name}
 use Rattle.ostore_graph_model.specs.Step.{step}
 use Rattle.ostore_graph_model.specs.Addresses.{PlacedCell, cell_at}
 use Rattle.ostore_graph_model.specs.FixedPages.{serial_of}
 use Rattle.ostore_graph_model.specs.LawsOfCells.{added_cell}
-use Rattle.ostore_graph_model.specs.LawsOfMeaning.{HoldGraph, LeavesGraph}
-use Rattle.ostore_graph_model.specs.PageEdits.{Draws, AddsAt, name_of}
+use Rattle.ostore_graph_model.specs.LawsOfMeaning.{LeavesGraph}
+use Rattle.ostore_graph_model.specs.PageEdits.{AddsAt}
 use Rattle.ostore_graph_model.specs.StandsFor.{StandsFor}
 use Rattle.ostore_graph_model.specs.Valid.{IsValid}
 use Rattle.ostore_graph_model.proofs.AddressLaws.{cell_at-put_other, cell_at-read, page_put}
@@ -60,7 +60,7 @@ use Rattle.ostore_graph_model.proofs.PageLaws.{bytes_are}
 use Rattle.ostore_graph_model.proofs.RecordLaws.{code_size_of_type}
 use Rattle.ostore_graph_model.proofs.TakenLaw.{serial_is, taken_law, taken_reads}
 use Rattle.ostore_object_ops.specs.Bound.{with_bound}
-use Rattle.ostore_object_ops.specs.Means.{Leads, LeadsToRow, LeadsToName, Means, HasMeaning}
+use Rattle.ostore_object_ops.specs.Means.{Leads, LeadsToName}
 use Rattle.ostore_object_ops.specs.Suits.{IsOfInts}
 use Rattle.ostore_object_ops.specs.Executes.{TakesAtMost, LacksSpace, Executes}
 use Rattle.ostore_object_ops.proofs.CommandFacts.{stays, valid_after, holds_graph}

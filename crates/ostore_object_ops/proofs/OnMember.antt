@@ -1,5 +1,5 @@
 -- What a command on a member of a variable's object gives, from the look-ups one by one.
-use Rattle.std.proofs.Common.{◌≡◌, ℕ, Bool, false, List, [], ◌∷◌, ap, ◌∙◌, Option, Some, None}
+use Rattle.std.proofs.Common.{◌≡◌, ℕ, Bool, false, List, ◌∷◌, ap, ◌∙◌, Option, Some, None}
 use Rattle.std.specs.Prelude.{not, ◌&&◌, ◌||◌, is_some, unwrap_or}
 use Rattle.std.specs.List.{slice_get}
 use Rattle.std.specs.Option.{option_map, option_and_then}

@@ -1,9 +1,6 @@
 -- Pages that are grown, drawn from and added to, in the words of what pages mean.
-use Rattle.std.proofs.Common.{◌≡◌, ◌≢◌, ℕ, zero, suc, ◌+◌, ◌*◌, ◌<◌, ◌≤◌, List, [], ◌∷◌, length, set, refl, sym, ap, ap₂, subst, ◌∙◌, arith, Some}
-use Rattle.std.specs.List.{slice_get}
+use Rattle.std.proofs.Common.{◌≡◌, ◌≢◌, ℕ, zero, suc, ◌+◌, ◌*◌, ◌<◌, ◌≤◌, List, [], ◌∷◌, length, set, refl, sym, ap, ap₂, ◌∙◌, arith}
 use Rattle.ostore_base.specs.declared.page.PageImage.{PageImage}
-use Rattle.ostore_page_tags.specs.declared.page_header.PageHeader.{PageHeader}
-use Rattle.ostore_page_tags.specs.Header.{header_of}
 use Rattle.ostore_page_tags.specs.PageLists.{bytes_at, header_at, first_of}
 use Rattle.ostore_page_tags.specs.PageChains.{IsSegment}
 use Rattle.ostore_page_tags.specs.Allocated.{IsAllocated}

@@ -1,12 +1,11 @@
 -- How executed lines make an executed transaction.
-use Rattle.std.proofs.Common.{◌≡◌, ◌<◌, ◌≤◌, ◌+◌, ◌*◌, length, drop, get_or, suc, zero, add-one, arith, Bool, List, [], ◌∷◌, ◌++◌, refl, sym, ap, subst, ◌∙◌, Option, Some, None}
+use Rattle.std.proofs.Common.{◌≡◌, ◌<◌, ◌≤◌, ◌+◌, length, drop, get_or, suc, zero, arith, List, [], ◌∷◌, ◌++◌, refl, sym, ap, subst, ◌∙◌, Some}
 use Rattle.std.specs.Prelude.{ℕ}
 use Rattle.std.specs.List.{slice_get}
 use Rattle.std.specs.FinMap as maps
 use Rattle.std.proofs.lemmas.List.{append_assoc, append-nil, length-append, drop_more}
 use Rattle.std.proofs.lemmas.Option.{slice_get_within, get_or_from_slice_get}
 use Rattle.ostore_base.specs.declared.page.PageImage.{PageImage}
-use Rattle.ostore_page_tags.specs.Allocated.{HasFree}
 use Rattle.ostore_schema_layout.specs.declared.schema.Schema.{Schema}
 use Rattle.ostore_graph_model.specs.declared.values.Reply.{Reply}
 use Rattle.ostore_graph_model.specs.declared.commands.Command.{Command}
@@ -15,15 +14,12 @@ use Rattle.ostore_graph_model.specs.Orders.{text_cmp}
 use Rattle.ostore_graph_model.specs.Graph.{Graph}
 use Rattle.ostore_graph_model.specs.Growth.{growth}
 use Rattle.ostore_graph_model.specs.Deeds.{Vars, Stepped}
-use Rattle.ostore_graph_model.specs.Step.{step}
-use Rattle.ostore_graph_model.specs.StandsFor.{StandsFor}
-use Rattle.ostore_graph_model.specs.Transaction.{Ran, with_first, run_from, transaction}
-use Rattle.ostore_graph_model.specs.Valid.{IsValid}
+use Rattle.ostore_graph_model.specs.Transaction.{Ran, with_first, run_from}
 use Rattle.ostore_graph_model.proofs.GraphExists.{graph_exists}
-use Rattle.ostore_object_ops.specs.Means.{Leads, LeadsToName, HasMeaning}
+use Rattle.ostore_object_ops.specs.Means.{Leads, LeadsToName}
 use Rattle.ostore_object_ops.specs.Executes.{TakesAtMost}
 use Rattle.ostore_segments.specs.declared.placement.NoSpace.{NoSpace}
-use Rattle.ostore_object_ops.specs.Lines.{RunsLine, LacksLine, IsAlong, HasRun, Transacts, LacksGrowth}
+use Rattle.ostore_object_ops.specs.Lines.{LacksLine, HasRun, LacksGrowth}
 use Rattle.ostore_object_ops.proofs.NewFacts.{same_free}
 use Rattle.ostore_object_ops.specs.LawsOfRuns.{LawOfFirstLines, LawOfNextLines, LawOfMeanings, LawOfLastLines}
 

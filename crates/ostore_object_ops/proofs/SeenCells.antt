@@ -1,18 +1,17 @@
 -- What is read of the image of a page of objects, where its pointers may be resident ones.
-use Rattle.std.proofs.Common.{◌≡◌, ℕ, ◌+◌, ◌*◌, ◌<◌, ◌≤◌, Bool, true, false, eqb, leb, ◌&&◌, List, [], ◌∷◌, length, get_or, refl, sym, ap, subst, ◌∙◌, arith, Option, Some, inl, inr}
-use Rattle.std.specs.Prelude.{nat_le}
+use Rattle.std.proofs.Common.{◌≡◌, ℕ, ◌+◌, ◌<◌, ◌≤◌, true, eqb, leb, List, [], ◌∷◌, get_or, refl, sym, ap, subst, arith, Option, Some, inl, inr}
 use Rattle.std.specs.List.{find, slice_get, AllByRecursion}
 use Rattle.std.specs.Int.{w64, cast_signed}
-use Rattle.std.proofs.lemmas.Bool.{le-leb, eq-eqb, and_from, cases_lt}
+use Rattle.std.proofs.lemmas.Bool.{le-leb, eq-eqb, and_from}
 use Rattle.ostore_page_tags.specs.declared.tag_rows.Row.{Row}
 use Rattle.ostore_page_tags.specs.Header.{header_of}
-use Rattle.ostore_page_tags.specs.Numbers.{number_at, int_at}
+use Rattle.ostore_page_tags.specs.Numbers.{int_at}
 use Rattle.ostore_page_tags.specs.Rows.{row_in, rows_of, row_at}
 use Rattle.ostore_page_tags.specs.Rules.{IsPage}
 use Rattle.ostore_page_tags.specs.PagePointers.{IsOutside, IsBeside, holds_objects}
-use Rattle.ostore_page_tags.proofs.bytes.ImageLaws.{SameOn, number_at-same}
+use Rattle.ostore_page_tags.proofs.bytes.ImageLaws.{number_at-same}
 use Rattle.ostore_page_tags.proofs.parts.CellLaws.{header_of-same}
-use Rattle.ostore_page_tags.proofs.shape.PageShape.{rows_in, end_in, offset_in, IsPage-shape, end_above}
+use Rattle.ostore_page_tags.proofs.shape.PageShape.{rows_in, end_in, offset_in}
 use Rattle.ostore_page_tags.proofs.changes.EditLaws.{IsAlike, alike-IsPage, alike-rows}
 use Rattle.ostore_page_tags.proofs.walks.NthLaws.{rows_counted, slice_get-range}
 use Rattle.ostore_schema_layout.specs.declared.schema.Schema.{Schema}

@@ -1,5 +1,5 @@
 -- Steps of a holder of pages, and what they make of a command.
-use Rattle.std.proofs.Common.{◌≡◌, ℕ, Bool, true, false, List, refl, sym, ap, subst, ◌∙◌, Ok, Err, Result, IfOk, IfErr, IsErrAnd, Option}
+use Rattle.std.proofs.Common.{◌≡◌, ℕ, Bool, true, false, List, refl, sym, subst, Ok, Err, Result, IfOk, IfErr, IsErrAnd, Option}
 use Rattle.std.specs.Prelude.{not, MatchResult}
 use Rattle.std.specs.Option.{option_map}
 use Rattle.ostore_base.specs.declared.page.PageImage.{PageImage}

@@ -13,7 +13,7 @@ use Rattle.ostore_graph_model.specs.Growth.{growth}
 use Rattle.ostore_graph_model.specs.Deeds.{Vars}
 use Rattle.ostore_graph_model.specs.StandsFor.{StandsFor}
 use Rattle.ostore_graph_model.specs.Valid.{IsValid}
-use Rattle.ostore_graph_model.specs.Transaction.{Ran, run_from, transaction, Runs}
+use Rattle.ostore_graph_model.specs.Transaction.{Ran, run_from, Runs}
 use Rattle.ostore_object_ops.specs.Means.{Leads, Means}
 use Rattle.ostore_object_ops.specs.Executes.{TakesAtMost, LacksSpace, Executes}
 

@@ -1,5 +1,5 @@
 -- What a reader gave of a word that stands at a place.
-use Rattle.std.specs.Prelude.{◌≡◌, ℕ, ◌+◌, if◌then◌else◌, List, Option, Some, None, Result, Ok, Err}
+use Rattle.std.specs.Prelude.{◌≡◌, ℕ, Option, Some, None, Result, Ok, Err}
 use Rattle.ostore_text_words.specs.declared.fault.TextFault.{TextFault}
 use Rattle.ostore_text_words.specs.declared.fault.TextFault.TheVariants as texts
 

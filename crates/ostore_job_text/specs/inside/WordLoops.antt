@@ -1,7 +1,5 @@
 -- Single words, and options and entries by the index of their words, as the reader's functions give one.
-use Rattle.std.specs.Prelude.{◌≡◌, ℕ, ◌+◌, if◌then◌else◌, List, Option, Some, None, Result, Ok, Err}
-use Rattle.ostore_text_words.specs.declared.fault.TextFault.{TextFault}
-use Rattle.ostore_text_words.specs.declared.fault.TextFault.TheVariants as texts
+use Rattle.std.specs.Prelude.{ℕ, ◌+◌, if◌then◌else◌, Result, Ok, Err}
 use Rattle.ostore_text_words.specs.Lines.{PlacedWord, PlacedLine}
 use Rattle.ostore_text_words.specs.LineWords.{◌>>=◌, or_at, word_at, any_at}
 use Rattle.ostore_job_text.specs.declared.said.OptionSaid.{OptionSaid}

@@ -1,9 +1,9 @@
-use Rattle.std.proofs.Common.{◌≡◌, ◌<◌, ◌≤◌, ◌+◌, ℕ, List, length, get_or, take, sym, ap, subst, refl, ◌∙◌, arith}
-use Rattle.std.proofs.lemmas.List.{length-take-le, take_all}
+use Rattle.std.proofs.Common.{◌≡◌, ℕ, List, length, get_or, take, sym, ap, subst, arith}
+use Rattle.std.proofs.lemmas.List.{length-take-le}
 use Rattle.ostore_base.specs.declared.numbers.PageNo.{PageNo}
 use Rattle.ostore_redo_journal.specs.Drafts.{Draft, Writes, IsAbove}
 use Rattle.ostore_client_core.specs.inside.Writing.{all_writes}
-use Rattle.ostore_client_core.proofs.WriteLaws.{writes_above, writes_more, writes_short}
+use Rattle.ostore_client_core.proofs.WriteLaws.{writes_above, writes_short}
 use Rattle.ostore_client_core.proofs.writing.write_owned.Goals as goal
 
 pub write_page-requires-clause-room : goal.write_page-requires-clause-room

@@ -1,11 +1,9 @@
-use Rattle.std.proofs.Common.{◌≡◌, ◌+◌, ◌*◌, ◌%◌, ◌<◌, ℕ, List, ap, sym, subst, arith, ◌∙◌, refl, Option, Some, None}
+use Rattle.std.proofs.Common.{◌≡◌, ◌+◌, ◌*◌, ◌<◌, ℕ, ap, sym, subst, arith, ◌∙◌, refl, Option, Some}
 use Rattle.std.specs.Option.{option_map}
-use Rattle.ostore_base.specs.declared.page.PageImage.{PageImage}
-use Rattle.ostore_schema_layout.specs.Cells.{pointers_of}
 use Rattle.ostore_schema_layout.specs.Numbers.{members_of, member_named}
 use Rattle.ostore_segments.specs.Holdings.{PagesTold}
-use Rattle.ostore_segments.proofs.ListSteps.{Stands-weaker, Stands-now, Becomes-stands, Becomes-sees}
-use Rattle.ostore_object_ops.specs.Bound.{bound_by, leads_of}
+use Rattle.ostore_segments.proofs.ListSteps.{Stands-weaker, Becomes-stands, Becomes-sees}
+use Rattle.ostore_object_ops.specs.Bound.{leads_of}
 use Rattle.ostore_object_ops.specs.Means.{HasMeaning}
 use Rattle.ostore_object_ops.proofs.MemberFacts.{refuses_unbound, page_there, refuses_dead, refuses_missing, finds_member}
 use Rattle.ostore_object_ops.proofs.FindFacts.{sees, row_seen, row_found, some_of, has_place}

@@ -1,6 +1,4 @@
-use Rattle.std.proofs.Common.{rules, ◌≡◌, ◌+◌, ◌∙◌, ◌<◌, ℕ, List, ap, sym, subst, arith, Ok, Err, inl, Some, length}
-use Rattle.ostore_base.specs.declared.page.PageImage.{PageImage}
-use Rattle.ostore_schema_layout.specs.Cells.{code_size}
+use Rattle.std.proofs.Common.{rules, ◌+◌, ◌∙◌, ℕ, ap, sym, subst, Ok, Err, inl, Some}
 use Rattle.ostore_segments.specs.declared.objects.NewCell.{NewCell}
 use Rattle.ostore_segments.specs.declared.placement.NoSpace.{NoSpace}
 use Rattle.ostore_segments.specs.Making.{IsObjectAsked, Makes}

@@ -1,7 +1,6 @@
-use Rattle.std.proofs.Common.{◌≡◌, ◌+◌, ◌*◌, ◌∙◌, ◌<◌, ℕ, Bool, true, List, ap, sym, subst, arith, Ok, Err, Some, refl, true≢false, length}
+use Rattle.std.proofs.Common.{◌≡◌, ◌+◌, ◌∙◌, ℕ, ap, sym, subst, Ok, Err, Some, refl, true≢false}
 use Rattle.std.specs.Prelude.{MatchResult, ⊤}
 use Rattle.std.proofs.Common.{Result}
-use Rattle.ostore_base.specs.declared.page.PageImage.{PageImage}
 use Rattle.ostore_schema_layout.specs.Cells.{code_size}
 use Rattle.ostore_schema_layout.specs.Numbers.{type_named}
 use Rattle.ostore_segments.specs.Holdings.{PagesTold}

@@ -1,8 +1,7 @@
-use Rattle.std.proofs.Common.{◌≡◌, ◌∙◌, ℤ, List, ap, sym, subst, arith, Ok, Err, to_z, of_z}
+use Rattle.std.proofs.Common.{◌≡◌, ◌∙◌, sym, subst, arith, Ok, Err, to_z, of_z}
 use Rattle.std.specs.Int.{w64}
 use Rattle.std.proofs.lemmas.Int.{ints, to_z-of_z}
 use Rattle.ostore_graph_model.specs.declared.refusal.Refusal.{Refusal}
-use Rattle.ostore_segments.specs.Holdings.{PagesTold}
 use Rattle.ostore_segments.proofs.ListSteps.{Stands-seen, Stands-weaker}
 use Rattle.ostore_object_ops.specs.declared.lookup.Found.{Found}
 use Rattle.ostore_object_ops.specs.Bound.{bound_by, leads_of}

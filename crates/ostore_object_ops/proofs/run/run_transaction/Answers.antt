@@ -1,13 +1,10 @@
-use Rattle.std.proofs.Common.{◌≡◌, ◌+◌, List, [], ap, sym, subst, arith, length, ◌∙◌}
-use Rattle.std.specs.Prelude.{ℕ}
+use Rattle.std.proofs.Common.{◌≡◌, ◌+◌, List, ap, sym, subst, arith, length, ◌∙◌}
 use Rattle.std.specs.Option.{option_map}
 use Rattle.ostore_graph_model.specs.declared.values.Reply.{Reply}
-use Rattle.ostore_segments.specs.declared.placement.NoSpace.{NoSpace}
-use Rattle.ostore_segments.specs.Holdings.{PagesTold, Becomes, Sees}
-use Rattle.ostore_segments.proofs.ListSteps.{Stands-now, Stands-both, Becomes-stands, Becomes-then, Becomes-weaker}
-use Rattle.ostore_object_ops.specs.Bound.{bound_by, leads_of}
+use Rattle.ostore_segments.proofs.ListSteps.{Stands-now, Becomes-stands, Becomes-then, Becomes-weaker}
+use Rattle.ostore_object_ops.specs.Bound.{leads_of}
 use Rattle.ostore_object_ops.specs.Suits.{Suits, MayUpdate}
-use Rattle.ostore_object_ops.specs.Lines.{LacksLine, HasRun, Transacts, LacksGrowth}
+use Rattle.ostore_object_ops.specs.Lines.{HasRun, Transacts}
 use Rattle.ostore_object_ops.proofs.RunLaws.{first_lines, next_lines, meanings, last_lines, one_more, lacks_growth}
 use Rattle.ostore_object_ops.proofs.StepFacts.{Becomes-stay, no_space_map, stopped_map, out_of_memory_map}
 use Rattle.ostore_object_ops.proofs.run.run_transaction.Goals as goal

@@ -1,6 +1,5 @@
-use Rattle.std.proofs.Common.{List, refl, sym, subst}
+use Rattle.std.proofs.Common.{refl, sym, subst}
 use Rattle.std.specs.List.{AllByRecursion}
-use Rattle.ostore_base.specs.declared.page.PageImage.{PageImage}
 use Rattle.ostore_graph_model.specs.Valid.{IsValid}
 use Rattle.ostore_segments.proofs.ListSteps.{stands_alone}
 use Rattle.ostore_object_ops.specs.Suits.{IsBuilt}

@@ -8,7 +8,7 @@ use Rattle.ostore_schema_layout.specs.Numbers.{place_named}
 use Rattle.ostore_cli.specs.declared.plain.graph.PlainObject.{PlainObject}
 use Rattle.ostore_cli.specs.Plain.{graph_of, vars_of, object_of}
 use Rattle.ostore_cli.proofs.PlainTables.{IsPlace, has_key, place_from_some, no_place_from_none, key_at_place, name_cmp-IsAntisymmetric}
-use Rattle.ostore_cli.proofs.PlainLookup.{an_object, no_object_there, unbound_gives, dangling_gives, memberless_gives, member_gives_deed}
+use Rattle.ostore_cli.proofs.PlainLookup.{an_object, no_object_there, dangling_gives, memberless_gives, member_gives_deed}
 use Rattle.ostore_cli.proofs.plain.lookup.find_place.Goals as goal
 
 -- the place of a name among the members

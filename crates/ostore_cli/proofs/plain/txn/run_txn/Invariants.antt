@@ -1,7 +1,5 @@
-use Rattle.std.proofs.Common.{◌≡◌, drop}
-use Rattle.std.specs.List.{AllByRecursion}
+use Rattle.std.proofs.Common.{drop}
 use Rattle.ostore_graph_model.specs.Transaction.{run_from, transaction}
-use Rattle.ostore_try_input.specs.Spelling.{IsBuiltCommand}
 use Rattle.ostore_cli.specs.Plain.{graph_of, vars_of}
 use Rattle.ostore_cli.proofs.PlainRun.{IsRunning}
 use Rattle.ostore_cli.proofs.plain.txn.run_txn.Given as goal

@@ -1,11 +1,9 @@
-use Rattle.std.proofs.Common.{◌≡◌, nat_eq, ◌∷◌, None, refl, sym, ap, subst, ◌∙◌}
-use Rattle.ostore_base.specs.declared.numbers.PageNo.{PageNo}
-use Rattle.ostore_base.specs.declared.page.PageImage.{PageImage}
+use Rattle.std.proofs.Common.{◌≡◌, ◌∷◌, refl, sym, ap, subst}
 use Rattle.ostore_schema_layout.specs.declared.schema.Schema.{Schema}
 use Rattle.ostore_page_service.specs.Told.{Told, InUse}
 use Rattle.ostore_graph_model.specs.declared.history.Entry.{Entry}
 use Rattle.ostore_client_cache.specs.Caches.{fresh, surplus}
-use Rattle.ostore_client_core.specs.Clients.{ClientView, with_pages, entry_of, IsOwn}
+use Rattle.ostore_client_core.specs.Clients.{ClientView, with_pages, IsOwn}
 use Rattle.ostore_client_core.specs.Calls.{Drops, IsFitPage}
 use Rattle.ostore_client_core.proofs.RecordLaws.{records_then, calm_then}
 use Rattle.ostore_client_core.proofs.GoesLaws.{own_still}

@@ -1,10 +1,8 @@
-use Rattle.std.proofs.Common.{◌≡◌, nat_eq, None, refl, ap, ◌∙◌}
+use Rattle.std.proofs.Common.{nat_eq, refl, ap, ◌∙◌}
 use Rattle.std.specs.Map.{lookup}
-use Rattle.ostore_base.specs.declared.page.PageImage.{PageImage}
 use Rattle.ostore_page_service.specs.Told.{Told, InUse}
 use Rattle.ostore_graph_model.specs.declared.history.Entry.{Entry}
 use Rattle.ostore_client_core.specs.Clients.{ClientView, entry_of, stored_image}
-use Rattle.ostore_client_core.specs.Attempts.{Narrows}
 use Rattle.ostore_client_core.proofs.EntryLaws.{gone_here}
 use Rattle.ostore_client_core.proofs.RecordLaws.{records_then, calm_then}
 use Rattle.ostore_client_core.proofs.GoesLaws.{own_still}

@@ -1,4 +1,4 @@
-use Rattle.std.proofs.Common.{◌≡◌, ◌<◌, ◌≤◌, ℕ, nat_eq, List, length, sym, ap, subst, ◌∙◌, arith}
+use Rattle.std.proofs.Common.{◌≡◌, ◌<◌, nat_eq, List, length, sym, ap, subst, ◌∙◌, arith}
 use Rattle.std.specs.List.{AllPairs}
 use Rattle.std.specs.Map.{lookup}
 use Rattle.ostore_base.specs.declared.numbers.PageNo.{PageNo}

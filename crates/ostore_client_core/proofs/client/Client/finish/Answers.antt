@@ -1,4 +1,4 @@
-use Rattle.std.proofs.Common.{◌≡◌, ◌≤◌, Bool, [], length, sym, subst, arith}
+use Rattle.std.proofs.Common.{Bool, [], sym, subst, arith}
 use Rattle.ostore_page_service.specs.Told.{Numbers}
 use Rattle.ostore_client_core.specs.declared.release.Ending.TheVariants.{Committed}
 use Rattle.ostore_client_core.specs.Clients.{stored_image}
