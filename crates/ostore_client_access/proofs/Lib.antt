@@ -1,0 +1,2 @@
+pub mod CellPointers
+pub mod BridgeLaws

@@ -1,0 +1,1 @@
+-- What contracts of public calls rest on.

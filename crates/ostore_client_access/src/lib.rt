@@ -1,0 +1,2 @@
+//! A client's pages as operations see and change them.
+#![tactic(auto)]
