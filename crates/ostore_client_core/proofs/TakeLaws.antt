@@ -107,6 +107,7 @@ lacks_frames fault told now old mid new page before w calm schema frames fetches
     gone = gone;
     held = w.gone.held;
     kept = w.gone.kept;
+    schema = ap (λ (v : ClientView). v.schema) w.lost.client ∙ w.lost.finds.schema ∙ schema;
     fetches = ap (λ (v : ClientView). v.fetches) w.lost.client ∙ w.lost.finds.fetches ∙ ap one_more fetches;
   },
   calm,

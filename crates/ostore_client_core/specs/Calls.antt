@@ -157,6 +157,7 @@ pub record LacksFrames (old new : ClientView) (page : PageNo) (frames : ℕ) (mi
   pub gone : entry_of new page.0 ≡ None
   pub held : mine.held page.0 ≡ None
   pub kept : mine.kept page.0 ≡ None
+  pub schema : new.schema ≡ old.schema
   pub fetches : new.fetches ≡ one_more old.fetches
 
 -- Why a page didn't come into use. CacheFull and want of memory come before any claim, Busy and SpaceFull after it.

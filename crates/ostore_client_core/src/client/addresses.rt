@@ -22,7 +22,7 @@ const PAGE_BYTES: u32 = PAGE_SIZE as u32;
 
 impl<'a, M: Mapper> Client<'a, M> {
     /// The page in an address's frame, in use or not, and None exactly where the frame has none.
-    fn page_at(&self, address: u32) -> Option<PageNo>
+    pub fn page_at(&self, address: u32) -> Option<PageNo>
         ensures { result ≡ page_in self.now.frames.pages (address / 4096) }
     {
         self.space.page_at(Frame(address / PAGE_BYTES))

@@ -166,9 +166,9 @@ impl<'a, M: Mapper> Client<'a, M> {
         }
     }
 
-    /// The first address of a page's frame.
+    /// The first address of a frame, that of a page which has one.
     #[tactic(auto, using(crate::proofs::FrameLaws::first_leads))]
-    fn address_of(&self, page: PageNo) -> u32
+    pub fn address_of(&self, page: PageNo) -> u32
         requires { IsSome (frame_of self.now.frames.pages page.0) }
         ensures { IsAddressOf self.now page.0 result }
     {
