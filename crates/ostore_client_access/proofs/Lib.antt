@@ -1,2 +1,3 @@
 pub mod CellPointers
 pub mod BridgeLaws
+pub mod StoreSteps

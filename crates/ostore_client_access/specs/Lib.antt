@@ -1,1 +1,2 @@
 -- What contracts of public calls rest on.
+pub mod Accesses
