@@ -29,11 +29,13 @@ or_parts false b is = inr is
 
 told_as : (schema : Schema) (code n : ℕ) (b : Bool) → is_told schema code ≡ b → size_told schema code ≡ Some n → HasCode schema code × (n ≡ code_size schema code)
 told_as schema code n true is told =
-    let some : size_told schema code ≡ Some (code_size schema code) = rw is refl in
-    (elim (or_parts (leb 1 code && leb code (length schema.types)) (is_chunk_code code) is) [
-      | inl types ↦ let parts = and_parts (leb 1 code) (leb code (length schema.types)) types in inl (leb-true 1 code parts.0, leb-true code (length schema.types) parts.1)
-      | inr chunk ↦ let parts = and_parts (leb 240 code) (leb code 246) chunk in inr (leb-true 240 code parts.0, leb-true code 246 parts.1)
-    ], (let same : Some n ≡ Some (code_size schema code) = sym told ∙ some in cc))
+    let some : size_told schema code ≡ Some (code_size schema code) = rw is refl in (
+      elim (or_parts (leb 1 code && leb code (length schema.types)) (is_chunk_code code) is) [
+        | inl types ↦ let parts = and_parts (leb 1 code) (leb code (length schema.types)) types in inl (leb-true 1 code parts.0, leb-true code (length schema.types) parts.1)
+        | inr chunk ↦ let parts = and_parts (leb 240 code) (leb code 246) chunk in inr (leb-true 240 code parts.0, leb-true code 246 parts.1)
+      ],
+      (let same : Some n ≡ Some (code_size schema code) = sym told ∙ some in cc),
+    )
 told_as schema code n false is told = absurd (let none : size_told schema code ≡ None = rw is refl in let same : Some n ≡ None = sym told ∙ none in cc)
 
 pub told_code : (schema : Schema) (code n : ℕ) → size_told schema code ≡ Some n → HasCode schema code × (n ≡ code_size schema code)

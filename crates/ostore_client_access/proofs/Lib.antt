@@ -1,3 +1,9 @@
 pub mod CellPointers
 pub mod BridgeLaws
 pub mod StoreSteps
+pub mod PassLaws
+pub mod HomeLaws
+pub mod AccessLaws
+pub mod AlikeLaws
+pub mod InCellLaws
+pub mod EditLaws

@@ -54,7 +54,7 @@ owner_tied Owned was now side page is tied = tied
 
 -- ---- the list that is seen
 
-seen_get : (client : ClientView) (base : List PageImage) (k : ℕ) (d : PageImage) → k < length base → get_or (seen_list client base) k d ≡ seen client k (get_or base k d)
+pub seen_get : (client : ClientView) (base : List PageImage) (k : ℕ) (d : PageImage) → k < length base → get_or (seen_list client base) k d ≡ seen client k (get_or base k d)
 seen_get client base k d below =
     get_or_from_slice_get (seen_list client base) k (seen client k (get_or base k d)) d
     (get_seen client k base ∙ ap (option_map (seen client k)) (slice_get-get_or base k d below))

@@ -1,2 +1,3 @@
--- What contracts of public calls rest on.
+-- What contracts of public calls rest on; `inside` only ties private code.
 pub mod Accesses
+pub mod inside

@@ -1,0 +1,97 @@
+//! Pages that are brought into use, owned, and written.
+
+ghost use Rattle.std.specs.Prelude.{◌≡◌, ◌<◌, ◌≤◌, ◌+◌, true, length, IfOk, IfErr, OnOk};
+ghost use Rattle.ostore_base.specs.declared.page.TheConstants.{PAGE_SIZE};
+ghost use Rattle.ostore_client_cache.specs.Entries.{is_owned};
+ghost use Rattle.ostore_client_core.specs.Clients.{entry_of, is_page_used};
+ghost use Rattle.ostore_client_core.specs.Attempts.{Attempts, Narrows};
+ghost use Rattle.ostore_client_core.specs.Calls.{IsAddressOf};
+ghost use Rattle.ostore_client_access.specs.Accesses.{Passes, Fails};
+ghost use Rattle.ostore_client_access.specs.inside.Puts.{PutsInto};
+
+use ostore_address_space::Mapper;
+use ostore_base::PageNo;
+use ostore_client_core::{AttemptFault, Client, GraphKind};
+use ostore_page_service::{PageClaims, PageService};
+
+/// Brings a page into use, and answers its frame's first address.
+pub(crate) fn enter_page<M: Mapper, S: PageService<GraphKind>>(
+    client: &mut Client<'_, M>,
+    service: &mut S,
+    page: PageNo,
+) -> Result<u32, AttemptFault>
+    requires runs { Attempts (S.serves service.old) (S.tells service.old) client.old }
+    requires known { page.0 < length (S.tells service.old).opened }
+    ensures narrows { OnOk result (Narrows (S.serves service.old) (S.serves service.new)
+        (S.tells service.old) (S.tells service.new) client.old client.new) }
+    ensures used { OnOk result (is_page_used client.new page.0) }
+    ensures address { IfOk result (IsAddressOf client.new page.0) }
+    ensures passes { OnOk result (Passes (S.serves service.old) (S.serves service.new)
+        (S.tells service.old) (S.tells service.new)) }
+    ensures fails { IfErr result (λ fault. Fails fault (S.serves service.old) (S.serves service.new)
+        (S.tells service.old) (S.tells service.new) client.new) }
+    ensures schema { client.new.schema ≡ client.old.schema }
+    ensures writer { (S.tells service.new).may_write ≡ (S.tells service.old).may_write }
+{
+    client.enter(service, page)
+}
+
+/// Brings a page into use, makes the attempt its owner, and answers its frame's first address.
+pub(crate) fn own_page<M: Mapper, S: PageService<GraphKind>>(
+    client: &mut Client<'_, M>,
+    service: &mut S,
+    page: PageNo,
+) -> Result<u32, AttemptFault>
+    requires runs { Attempts (S.serves service.old) (S.tells service.old) client.old }
+    requires known { page.0 < length (S.tells service.old).opened }
+    requires writer { (S.tells service.old).may_write ≡ true }
+    ensures narrows { OnOk result (Narrows (S.serves service.old) (S.serves service.new)
+        (S.tells service.old) (S.tells service.new) client.old client.new) }
+    ensures owned { OnOk result (is_owned (entry_of client.new page.0) ≡ true) }
+    ensures address { IfOk result (IsAddressOf client.new page.0) }
+    ensures passes { OnOk result (Passes (S.serves service.old) (S.serves service.new)
+        (S.tells service.old) (S.tells service.new)) }
+    ensures fails { IfErr result (λ fault. Fails fault (S.serves service.old) (S.serves service.new)
+        (S.tells service.old) (S.tells service.new) client.new) }
+    ensures schema { client.new.schema ≡ client.old.schema }
+    ensures writer { (S.tells service.new).may_write ≡ (S.tells service.old).may_write }
+{
+    let address = match enter_page(client, service, page) {
+        Ok(address) => address,
+        Err(fault) => return Err(fault),
+    };
+    match client.own(service, address) {
+        Ok(()) => Ok(address),
+        Err(fault) => Err(fault),
+    }
+}
+
+/// Puts bytes into a page, which comes into use and is owned before.
+pub(crate) fn put<M: Mapper, S: PageService<GraphKind>>(
+    client: &mut Client<'_, M>,
+    service: &mut S,
+    page: PageNo,
+    at: u16,
+    bytes: &[u8],
+) -> Result<(), AttemptFault>
+    requires runs { Attempts (S.serves service.old) (S.tells service.old) client.old }
+    requires known { page.0 < length (S.tells service.old).opened }
+    requires writer { (S.tells service.old).may_write ≡ true }
+    requires some { at < PAGE_SIZE }
+    requires within { at + length bytes.now ≤ PAGE_SIZE }
+    ensures puts { OnOk result (PutsInto (S.serves service.old) (S.serves service.new)
+        (S.tells service.old) (S.tells service.new) client.old client.new page.0 at bytes.now) }
+    ensures passes { OnOk result (Passes (S.serves service.old) (S.serves service.new)
+        (S.tells service.old) (S.tells service.new)) }
+    ensures fails { IfErr result (λ fault. Fails fault (S.serves service.old) (S.serves service.new)
+        (S.tells service.old) (S.tells service.new) client.new) }
+    ensures schema { client.new.schema ≡ client.old.schema }
+    ensures writer { (S.tells service.new).may_write ≡ (S.tells service.old).may_write }
+{
+    let address = match own_page(client, service, page) {
+        Ok(address) => address,
+        Err(fault) => return Err(fault),
+    };
+    client.store(address + u32::from(at), bytes);
+    Ok(())
+}
