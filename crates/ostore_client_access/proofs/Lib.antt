@@ -7,3 +7,4 @@ pub mod AccessLaws
 pub mod AlikeLaws
 pub mod InCellLaws
 pub mod EditLaws
+pub mod RootWrites
