@@ -58,7 +58,7 @@ are_alike schema old new header rows long are =
     let count : length (cells_of new) ≡ length (cells_of old) = cells_counted new ∙ ap (λ (h : PageHeader). h.rows) header ∙ sym (cells_counted old) in
     let many : (header_of new).rows ≡ (header_of old).rows = ap (λ (h : PageHeader). h.rows) header in
     let shape : (k : ℕ) (d : Cell) → k < length (cells_of new) → SameShape (get_or (cells_of new) k d) (get_or (cells_of old) k d) = λ k d below.
-        subst (λ (l : List Cell). SameShape (get_or l k d) (get_or (cells_of old) k d)) (sym made) (from_alike end new old (rows_of old) k d long (subst (λ (l : List Cell). k < length l) made below)) in
+    subst (λ (l : List Cell). SameShape (get_or l k d) (get_or (cells_of old) k d)) (sym made) (from_alike end new old (rows_of old) k d long (subst (λ (l : List Cell). k < length l) made below)) in
     record {
       sized = λ k d below. cell_alike schema (get_or (cells_of new) k d) (get_or (cells_of old) k d) (shape k d below) (are.sized k d (omega arith));
       behind = λ k d below. (let s = shape k d below in subst (λ (r : Row). 32 ≤ r.offset) (sym s.row) (are.behind k d (omega arith)));
