@@ -1,0 +1,78 @@
+-- What a turn may give, and what it leaves.
+use Rattle.std.specs.Prelude.{◌≡◌, ◌≢◌, ◌≤◌, ◌+◌, ◌⊎◌, ◌==◌, ℕ, Bool, true, false, if◌then◌else◌, List, length}
+use Rattle.ostore_graph_model.specs.declared.commands.Txn.{Txn}
+use Rattle.ostore_job_text.specs.declared.job.JobClient.{JobClient}
+use Rattle.ostore_run_report.specs.declared.results.Cause.{Cause}
+use Rattle.ostore_run_report.specs.declared.results.Cause.TheVariants.{Busy, NoSpace, CacheFull, SpaceFull, Disk, Stopped}
+use Rattle.ostore_turns.specs.declared.attempts.Gave.{Gave}
+use Rattle.ostore_turns.specs.declared.attempts.Gave.TheVariants.{Going, Committed, Aborted, Failed}
+use Rattle.ostore_turns.specs.declared.place.Place.{Place}
+use Rattle.ostore_turns.specs.Places.{Moment, IsIn, lines_of, moved}
+
+-- a disk call failed, so that no further line is executed
+abbrev pub StopsRun : Gave → Type 0
+StopsRun (Failed Disk) = Unit {0}
+StopsRun other = ⊥
+
+-- ---- Busy
+
+-- Another client has executed a command in an attempt that it has not ended, and one of the two transactions is an update.
+pub record IsMet (clients : List JobClient) (now : Moment) (number : ℕ) (txn : Txn) : Type 0 where
+  pub other : ℕ
+  pub another : other ≢ number
+  pub begun : Txn
+  pub is_in : IsIn clients now other begun
+  pub executed : 2 ≤ (now.places other).line
+  pub updates : (txn.update ≡ true) ⊎ (begun.update ≡ true)
+
+-- ---- what a line may give
+
+-- the line is a command
+abbrev pub IsCommandLine : Txn → Place → Type 0
+IsCommandLine txn at = (1 ≤ at.line) × (at.line ≤ length txn.commands)
+
+-- the line is the last one
+abbrev pub IsLastLine : Txn → Place → Type 0
+IsLastLine txn at = at.line + 1 ≡ lines_of txn
+
+-- Why an attempt may end without a commit: at a command, where another client is met, or where something has run out; or by a
+-- disk call of a commit that failed.
+abbrev pub IsCauseAt : List JobClient → Moment → ℕ → Txn → Cause → Type 0
+IsCauseAt clients now number txn (Busy page seen found) = IsCommandLine txn (now.places number) × IsMet clients now number txn
+IsCauseAt clients now number txn (NoSpace segment need) = IsCommandLine txn (now.places number)
+IsCauseAt clients now number txn (CacheFull used capacity) = IsCommandLine txn (now.places number)
+IsCauseAt clients now number txn (SpaceFull frames) = IsCommandLine txn (now.places number)
+IsCauseAt clients now number txn Disk = IsLastLine txn (now.places number) × (txn.update ≡ true)
+IsCauseAt clients now number txn (Stopped after) = ⊥
+
+-- an update has the next number, and a read that of the last commit
+abbrev pub number_of : Bool → ℕ → ℕ
+number_of true last = last + 1
+number_of false last = last
+
+-- what the line of a transaction may give: it goes on exactly where the line isn't the last one
+abbrev pub MayGive : List JobClient → Moment → ℕ → Txn → Gave → Type 0
+MayGive clients now number txn Going = IsLastLine txn (now.places number) → ⊥
+MayGive clients now number txn (Committed commit replies) =
+    IsLastLine txn (now.places number) × (txn.aborts ≡ false) × (commit ≡ number_of txn.update now.commits)
+MayGive clients now number txn Aborted = IsLastLine txn (now.places number) × (txn.aborts ≡ true)
+MayGive clients now number txn (Failed cause) = IsCauseAt clients now number txn cause
+
+-- ---- what it leaves
+
+-- the number of the last commit then
+abbrev pub commits_then : Gave → ℕ → ℕ
+commits_then (Committed commit replies) commits = commit
+commits_then other commits = commits
+
+-- the client of the turn has moved on, and the others are where they were
+abbrev pub moved_one : ℕ → ℕ → Gave → (ℕ → Place) → ℕ → Place
+moved_one number tries gave places other = if other == number then moved tries (places other) gave else places other
+
+-- a client executed its next line, which gave this
+pub record Turns (clients : List JobClient) (before : Moment) (number : ℕ) (gave : Gave) (after : Moment) : Type 0 where
+  pub txn : Txn
+  pub is_in : IsIn clients before number txn
+  pub may : MayGive clients before number txn gave
+  pub places : (other : ℕ) → after.places other ≡ moved_one number is_in.client.tries gave before.places other
+  pub commits : after.commits ≡ commits_then gave before.commits
