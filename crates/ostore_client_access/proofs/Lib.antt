@@ -8,3 +8,5 @@ pub mod AlikeLaws
 pub mod InCellLaws
 pub mod EditLaws
 pub mod RootWrites
+pub mod MadeLaws
+pub mod TestLaws

@@ -62,10 +62,13 @@ narrows_then a b c t u v x y z one two = record {
 
 -- a page that isn't owned, for another client is at it
 pub own_fails : (b c : Script → Type 0) (u v : Told Entry) (fault : AttemptFault) (y z : ClientView) (page : PageNo) (frame : ℕ) → page_in y.frames.pages frame ≡ Some page → IfSome (page_in y.frames.pages frame) (λ p. (z ≡ y) × IsBusy fault u v p.0)
-    → IsOwn c v z → SameRecords u v → StillServes b c → Fails fault b c u v z
-own_fails b c u v fault y z page frame leads refused own same served = record {
-  own = own;
-  same = same;
-  served = served;
-  cause = busy_causes fault u v z page.0 (subst (λ (o : Option PageNo). IfSome o (λ p. (z ≡ y) × IsBusy fault u v p.0)) leads refused).1;
-}
+    → IsOwn c v z → SameRecords u v → StillServes b c → Fails fault b c u v y z
+own_fails b c u v fault y z page frame leads refused own same served =
+    let why = subst (λ (o : Option PageNo). IfSome o (λ p. (z ≡ y) × IsBusy fault u v p.0)) leads refused in
+    record {
+      own = own;
+      same = same;
+      served = served;
+      schema = ap (λ (w : ClientView). w.schema) why.0;
+      cause = busy_causes fault u v z page.0 why.1;
+    }

@@ -59,10 +59,11 @@ pub record Edits (serves later : Script → Type 0) (told now : Told Entry) (old
   pub views : (page : ℕ) → is_page_used old page → is_page_used new page
 
 -- after calls that were Ok: the service met no other client, and has the records that it had
-pub record Passes (serves later : Script → Type 0) (told now : Told Entry) : Type 0 where
+pub record Passes (serves later : Script → Type 0) (told now : Told Entry) (old new : ClientView) : Type 0 where
   pub same : SameRecords told now
   pub served : StillServes serves later
   pub calm : NoBusy told now
+  pub schema : new.schema ≡ old.schema
 
 -- Why a call failed. Busy was answered by the service, once; else no Busy came.
 abbrev pub Causes : AttemptFault → Told Entry → Told Entry → ClientView → Type 0
@@ -78,9 +79,10 @@ Causes (Commit fault) told now client = ⊥
 
 -- after a call that failed, where those before it were Ok: the service is still the client's own, so that the attempt
 -- can be aborted
-pub record Fails (fault : AttemptFault) (serves later : Script → Type 0) (told now : Told Entry) (client : ClientView)
+pub record Fails (fault : AttemptFault) (serves later : Script → Type 0) (told now : Told Entry) (old new : ClientView)
     : Type 0 where
-  pub own : IsOwn later now client
+  pub own : IsOwn later now new
   pub same : SameRecords told now
   pub served : StillServes serves later
-  pub cause : Causes fault told now client
+  pub schema : new.schema ≡ old.schema
+  pub cause : Causes fault told now new

@@ -30,10 +30,10 @@ impl<'c, 'a, M: Mapper, S: PageService<GraphKind>> Pages for Access<'c, 'a, M, S
     ghost held = { λ a. access_held (S.serves a.service.now) (S.tells a.service.now) a.client.now };
 
     ghost passes = { λ a b. Passes (S.serves a.service.now) (S.serves b.service.now)
-        (S.tells a.service.now) (S.tells b.service.now) };
+        (S.tells a.service.now) (S.tells b.service.now) a.client.now b.client.now };
 
     ghost fails = { λ a fault b. Fails fault (S.serves a.service.now) (S.serves b.service.now)
-        (S.tells a.service.now) (S.tells b.service.now) b.client.now };
+        (S.tells a.service.now) (S.tells b.service.now) a.client.now b.client.now };
 
     fn enter(&mut self, page: PageNo) -> Result<(), AttemptFault> {
         match enter_page(self.client, self.service, page) {
@@ -66,15 +66,18 @@ impl<'c, 'a, M: Mapper, S: PageService<GraphKind>> Pages for Access<'c, 'a, M, S
         put(self.client, self.service, PageNo(ROOTS_PAGE), at, &row)
     }
 
-    ghost passes_at_once = { λ a. passes_refl (S.serves a.service.now) (S.tells a.service.now) };
+    ghost passes_at_once = { λ a. passes_refl (S.serves a.service.now) (S.tells a.service.now)
+        a.client.now };
 
     ghost passes_on = { λ a b c first second. passes_then (S.serves a.service.now)
         (S.serves b.service.now) (S.serves c.service.now) (S.tells a.service.now)
-        (S.tells b.service.now) (S.tells c.service.now) first second };
+        (S.tells b.service.now) (S.tells c.service.now)
+        a.client.now b.client.now c.client.now first second };
 
     ghost fails_later = { λ a b c fault passed failed. fails_then (S.serves a.service.now)
         (S.serves b.service.now) (S.serves c.service.now) (S.tells a.service.now)
-        (S.tells b.service.now) (S.tells c.service.now) fault c.client.now passed failed };
+        (S.tells b.service.now) (S.tells c.service.now)
+        a.client.now b.client.now c.client.now fault passed failed };
 }
 
 impl<'c, 'a, M: Mapper, S: PageService<GraphKind>> CellPages for Access<'c, 'a, M, S> {

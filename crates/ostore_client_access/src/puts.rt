@@ -27,9 +27,9 @@ pub(crate) fn enter_page<M: Mapper, S: PageService<GraphKind>>(
     ensures used { OnOk result (is_page_used client.new page.0) }
     ensures address { IfOk result (IsAddressOf client.new page.0) }
     ensures passes { OnOk result (Passes (S.serves service.old) (S.serves service.new)
-        (S.tells service.old) (S.tells service.new)) }
+        (S.tells service.old) (S.tells service.new) client.old client.new) }
     ensures fails { IfErr result (λ fault. Fails fault (S.serves service.old) (S.serves service.new)
-        (S.tells service.old) (S.tells service.new) client.new) }
+        (S.tells service.old) (S.tells service.new) client.old client.new) }
     ensures schema { client.new.schema ≡ client.old.schema }
     ensures writer { (S.tells service.new).may_write ≡ (S.tells service.old).may_write }
 {
@@ -50,9 +50,9 @@ pub(crate) fn own_page<M: Mapper, S: PageService<GraphKind>>(
     ensures owned { OnOk result (is_owned (entry_of client.new page.0) ≡ true) }
     ensures address { IfOk result (IsAddressOf client.new page.0) }
     ensures passes { OnOk result (Passes (S.serves service.old) (S.serves service.new)
-        (S.tells service.old) (S.tells service.new)) }
+        (S.tells service.old) (S.tells service.new) client.old client.new) }
     ensures fails { IfErr result (λ fault. Fails fault (S.serves service.old) (S.serves service.new)
-        (S.tells service.old) (S.tells service.new) client.new) }
+        (S.tells service.old) (S.tells service.new) client.old client.new) }
     ensures schema { client.new.schema ≡ client.old.schema }
     ensures writer { (S.tells service.new).may_write ≡ (S.tells service.old).may_write }
 {
@@ -82,9 +82,9 @@ pub(crate) fn put<M: Mapper, S: PageService<GraphKind>>(
     ensures puts { OnOk result (PutsInto (S.serves service.old) (S.serves service.new)
         (S.tells service.old) (S.tells service.new) client.old client.new page.0 at bytes.now) }
     ensures passes { OnOk result (Passes (S.serves service.old) (S.serves service.new)
-        (S.tells service.old) (S.tells service.new)) }
+        (S.tells service.old) (S.tells service.new) client.old client.new) }
     ensures fails { IfErr result (λ fault. Fails fault (S.serves service.old) (S.serves service.new)
-        (S.tells service.old) (S.tells service.new) client.new) }
+        (S.tells service.old) (S.tells service.new) client.old client.new) }
     ensures schema { client.new.schema ≡ client.old.schema }
     ensures writer { (S.tells service.new).may_write ≡ (S.tells service.old).may_write }
 {

@@ -11,10 +11,11 @@ returns-in-Ok-own-clause-narrows g c = narrows_then (g.S.PageClaims.serves c.arg
 
 pub returns-in-Ok-own-clause-passes : goal.returns-in-Ok-own-clause-passes
 returns-in-Ok-own-clause-passes g c = passes_then (g.S.PageClaims.serves c.args.service.now) (g.S.PageClaims.serves c.enter_page.new.service) (g.S.PageClaims.serves c.own.new.service) (g.S.PageClaims.tells c.args.service.now) (g.S.PageClaims.tells c.enter_page.new.service)
-    (g.S.PageClaims.tells c.own.new.service) c.in-Ok.ensures.passes (record { same = c.in-Ok-own.ensures.same; served = c.in-Ok-own.ensures.served; calm = c.in-Ok-own.ensures.calm })
+    (g.S.PageClaims.tells c.own.new.service) c.args.client.now c.enter_page.new.client c.own.new.self c.in-Ok.ensures.passes
+    (record { same = c.in-Ok-own.ensures.same; served = c.in-Ok-own.ensures.served; calm = c.in-Ok-own.ensures.calm; schema = c.in-Ok-own.ensures.narrows.schema })
 
 pub returns-in-Err-own-clause-fails : goal.returns-in-Err-own-clause-fails
 returns-in-Err-own-clause-fails g c = fails_then (g.S.PageClaims.serves c.args.service.now) (g.S.PageClaims.serves c.enter_page.new.service) (g.S.PageClaims.serves c.own.new.service) (g.S.PageClaims.tells c.args.service.now) (g.S.PageClaims.tells c.enter_page.new.service)
-    (g.S.PageClaims.tells c.own.new.service) c.in-Err-own.fault c.own.new.self c.in-Ok.ensures.passes
+    (g.S.PageClaims.tells c.own.new.service) c.args.client.now c.enter_page.new.client c.own.new.self c.in-Err-own.fault c.in-Ok.ensures.passes
     (own_fails (g.S.PageClaims.serves c.enter_page.new.service) (g.S.PageClaims.serves c.own.new.service) (g.S.PageClaims.tells c.enter_page.new.service) (g.S.PageClaims.tells c.own.new.service) c.in-Err-own.fault c.enter_page.new.client c.own.new.self c.args.page (c.in-Ok.address / 4096)
     c.in-Ok.ensures.address.leads c.in-Err-own.ensures.refused c.in-Err-own.ensures.own c.in-Err-own.ensures.same c.in-Err-own.ensures.served)

@@ -1,0 +1,104 @@
+//! Transactions that an attempt executes on its client's pages.
+
+ghost use Rattle.std.specs.Prelude.{◌≡◌, true, IfOk, IfErr, OnOk};
+ghost use Rattle.std.specs.List.{AllByRecursion};
+ghost use Rattle.ostore_schema_layout.specs.Lawful.{IsLawful};
+ghost use Rattle.ostore_client_core.specs.Clients.{IsIdle, IsOwn};
+ghost use Rattle.ostore_client_core.specs.Attempts.{Attempts};
+ghost use Rattle.ostore_object_ops.specs.Suits.{IsOfInts, IsBuilt};
+ghost use Rattle.ostore_object_ops.specs.Stops.{Stopped};
+ghost use Rattle.ostore_client_access.specs.Accesses.{Passes, Fails};
+ghost use Rattle.ostore_client_core.specs.Commits.{FitsClient};
+ghost use Rattle.ostore_client_access.specs.Attempts.{HasMade, IsEntryOf};
+
+use crate::access::Access;
+use ostore_address_space::Mapper;
+use ostore_client_core::{AttemptFault, Client, GraphKind};
+use ostore_graph_model::{Entry, Replies, Txn};
+use ostore_object_ops::{Stop, run_transaction};
+use ostore_page_service::{PageClaims, PageService};
+use ostore_schema_layout::Schema;
+use std::alloc::Global;
+
+/// Executes the commands of a transaction, as [`execute`] does.
+pub fn execute_on<M: Mapper, S: PageService<GraphKind>>(
+    alloc: Global,
+    access: &mut Access<'_, '_, M, S>,
+    schema: &Schema,
+    txn: &Txn,
+) -> Result<Replies, Stop<AttemptFault>>
+    requires runs { Attempts (S.serves access.old.service.now) (S.tells access.old.service.now)
+        access.old.client.now }
+    requires idle { IsIdle access.old.client.now }
+    requires schema { access.old.client.now.schema ≡ schema.now }
+    requires lawful { IsLawful schema.now }
+    requires ints { IsOfInts schema.now }
+    requires writer { txn.now.update ≡ true → (S.tells access.old.service.now).may_write ≡ true }
+    requires built { AllByRecursion IsBuilt txn.now.commands }
+    ensures made { IfOk result (HasMade (S.serves access.new.service.now)
+        (S.tells access.new.service.now) access.new.client.now txn.now) }
+    ensures passes { OnOk result (Passes (S.serves access.old.service.now)
+        (S.serves access.new.service.now) (S.tells access.old.service.now)
+        (S.tells access.new.service.now) access.old.client.now access.new.client.now) }
+    ensures own { IsOwn (S.serves access.new.service.now) (S.tells access.new.service.now)
+        access.new.client.now }
+    ensures stops { IfErr result (λ stop. Stopped stop
+        (λ fault. Fails fault (S.serves access.old.service.now) (S.serves access.new.service.now)
+        (S.tells access.old.service.now) (S.tells access.new.service.now)
+        access.old.client.now access.new.client.now)
+        (Passes (S.serves access.old.service.now) (S.serves access.new.service.now)
+        (S.tells access.old.service.now) (S.tells access.new.service.now)
+        access.old.client.now access.new.client.now)) }
+    ensures client { access.new.client.ghost_name ≡ access.old.client.ghost_name }
+    ensures service { access.new.service.ghost_name ≡ access.old.service.ghost_name }
+    ensures schema { access.new.client.now.schema ≡ access.old.client.now.schema }
+{
+    run_transaction(alloc, access, schema, txn)
+}
+
+/// Executes the commands of a transaction in an attempt that has begun, and gives its replies. The schema is the
+/// client's, and the commands are of those that run. Where it stops, the attempt is to be aborted.
+pub fn execute<M: Mapper, S: PageService<GraphKind>>(
+    alloc: Global,
+    client: &mut Client<'_, M>,
+    service: &mut S,
+    schema: &Schema,
+    txn: &Txn,
+) -> Result<Replies, Stop<AttemptFault>>
+    requires runs { Attempts (S.serves service.old) (S.tells service.old) client.old }
+    requires idle { IsIdle client.old }
+    requires schema { client.old.schema ≡ schema.now }
+    requires lawful { IsLawful schema.now }
+    requires ints { IsOfInts schema.now }
+    requires writer { txn.now.update ≡ true → (S.tells service.old).may_write ≡ true }
+    requires built { AllByRecursion IsBuilt txn.now.commands }
+    ensures made { IfOk result (HasMade (S.serves service.new) (S.tells service.new) client.new
+        txn.now) }
+    ensures passes { OnOk result (Passes (S.serves service.old) (S.serves service.new)
+        (S.tells service.old) (S.tells service.new) client.old client.new) }
+    ensures own { IsOwn (S.serves service.new) (S.tells service.new) client.new }
+    ensures stops { IfErr result (λ stop. Stopped stop
+        (λ fault. Fails fault (S.serves service.old) (S.serves service.new)
+        (S.tells service.old) (S.tells service.new) client.old client.new)
+        (Passes (S.serves service.old) (S.serves service.new)
+        (S.tells service.old) (S.tells service.new) client.old client.new)) }
+    ensures schema { client.new.schema ≡ client.old.schema }
+{
+    let mut access = Access { client, service };
+    execute_on(alloc, &mut access, schema, txn)
+}
+
+/// A law: the entry of an update fits, where its replies are those of the commands that the attempt has executed.
+pub fn made_fits<M: Mapper, S: PageClaims<GraphKind>>(
+    client: &Client<'_, M>,
+    service: &S,
+    txn: &Txn,
+    entry: &Entry,
+)
+    requires made { HasMade (S.serves service.now) (S.tells service.now) client.now txn.now
+        entry.now.replies }
+    requires entry { IsEntryOf (S.serves service.now) (S.tells service.now) client.now txn.now
+        entry.now }
+    requires update { entry.now.update ≡ true }
+    ensures { FitsClient (S.serves service.now) (S.tells service.now) client.now entry.now }
+{}
