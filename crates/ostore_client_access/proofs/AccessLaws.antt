@@ -1,13 +1,10 @@
 -- What a client and its service stand for as a holder of pages.
-use Rattle.std.proofs.Common.{◌≡◌, ◌≢◌, ℕ, ◌+◌, ◌<◌, ◌≤◌, true, nat_eq, List, [], ◌∷◌, ◌++◌, length, get_or, set, take, drop, Option, Some, None, refl, sym, ap, subst, ◌∙◌, arith}
-use Rattle.std.specs.Prelude.{IsSome, slice_index_or}
+use Rattle.std.proofs.Common.{◌≡◌, ℕ, ◌+◌, ◌<◌, true, List, [], ◌∷◌, ◌++◌, length, get_or, set, take, drop, Some, refl, sym, ap, subst, ◌∙◌, arith}
 use Rattle.std.specs.List.{AllByRecursion}
 use Rattle.std.proofs.lemmas.List.{append-nil, set-get_or, take-append-drop}
 use Rattle.std.proofs.lemmas.Option.{same_Some}
 use Rattle.ostore_base.specs.Disk.{replaced}
 use Rattle.ostore_base.specs.declared.page.PageImage.{PageImage}
-use Rattle.ostore_base.specs.declared.numbers.PageNo.{PageNo}
-use Rattle.ostore_schema_layout.specs.declared.schema.Schema.{Schema}
 use Rattle.ostore_schema_layout.specs.Cells.{pointers_of}
 use Rattle.ostore_page_tags.specs.PageLists.{bytes_at, with_bytes}
 use Rattle.ostore_address_space.specs.Frames.{ArePaired, KeepsFrames}
@@ -27,17 +24,17 @@ use Rattle.ostore_graph_model.specs.declared.history.Entry.{Entry}
 use Rattle.ostore_client_cache.specs.declared.entries.CachedPage.{CachedPage}
 use Rattle.ostore_client_cache.specs.declared.entries.Hold.{Hold}
 use Rattle.ostore_client_cache.specs.declared.entries.Hold.TheVariants.{Retained, InUse, Owned}
-use Rattle.ostore_client_cache.specs.Entries.{is_used, is_owner, is_in_use, image_held, used_image}
+use Rattle.ostore_client_cache.specs.Entries.{is_used, is_in_use, image_held, used_image}
 use Rattle.std.proofs.lemmas.Bool.{false≢true}
 use Rattle.ostore_client_core.specs.Cells.{HasCellsOf}
-use Rattle.ostore_client_core.specs.Clients.{ClientView, entry_of, stored_image}
-use Rattle.ostore_client_core.specs.Attempts.{seen, seen_list, home_of, Attempts, MayBe, Narrows}
+use Rattle.ostore_client_core.specs.Clients.{ClientView, entry_of}
+use Rattle.ostore_client_core.specs.Attempts.{seen_list, home_of, Attempts, MayBe, Narrows}
 use Rattle.ostore_client_core.proofs.EntryLaws.{used_there}
 use Rattle.ostore_client_core.proofs.GoesLaws.{framed_still}
 use Rattle.ostore_client_core.proofs.SeenLaws.{length_seen, seen_used}
 use Rattle.ostore_client_access.specs.Accesses.{InView, access_held, Edits}
 use Rattle.ostore_client_access.specs.inside.Puts.{PutsInto}
-use Rattle.ostore_client_access.proofs.StoreSteps.{Stores, owner_used, stored, seen_get}
+use Rattle.ostore_client_access.proofs.StoreSteps.{owner_used, stored, seen_get}
 use Rattle.ostore_client_access.proofs.HomeLaws.{homes_kept, homes_stored}
 
 pub stands_runs : {P : List PageImage → Type 0} (a : Script → Type 0) (t : Told Entry) (x : ClientView) → Stands (access_held a t x) P → Attempts a t x

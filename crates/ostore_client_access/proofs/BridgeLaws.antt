@@ -1,23 +1,22 @@
 -- Bytes that are put beside the cells of a page are put beside its pointers.
-use Rattle.std.proofs.Common.{◌≡◌, ◌≢◌, ◌⊎◌, ℕ, zero, suc, ◌+◌, ◌-◌, ◌*◌, ◌<◌, ◌≤◌, ◌&&◌, ◌||◌, Bool, true, false, cond, eqb, leb, List, [], ◌∷◌, ◌++◌, length, get_or, Some, None, refl, sym, ap, subst, ◌∙◌, arith, inl, inr}
-use Rattle.std.specs.Prelude.{Option}
+use Rattle.std.proofs.Common.{◌≡◌, ◌≢◌, ◌⊎◌, ℕ, zero, suc, ◌+◌, ◌-◌, ◌*◌, ◌<◌, ◌≤◌, ◌&&◌, ◌||◌, Bool, true, false, eqb, leb, List, [], ◌∷◌, ◌++◌, length, get_or, Some, None, refl, sym, ap, subst, ◌∙◌, arith, inl, inr}
 use Rattle.std.specs.List.{All, AllPairs, AllByRecursion}
-use Rattle.std.proofs.lemmas.Bool.{ne_eqb, eqb-true, leb-true, and_parts, false≢true}
+use Rattle.std.proofs.lemmas.Bool.{ne_eqb, leb-true, and_parts, false≢true}
 use Rattle.std.proofs.lemmas.List.{append-nil}
 use Rattle.std.proofs.lemmas.List.Elements.{All-append}
 use Rattle.ostore_base.specs.Disk.{replaced}
 use Rattle.ostore_schema_layout.specs.declared.schema.Schema.{Schema}
-use Rattle.ostore_schema_layout.specs.Cells.{HasCode, code_size, pointers_of}
+use Rattle.ostore_schema_layout.specs.Cells.{HasCode, code_size}
 use Rattle.ostore_page_tags.specs.Header.{header_of}
 use Rattle.ostore_page_tags.specs.Cells.{Cell, cells_of}
 use Rattle.ostore_page_tags.specs.Rules.{is_chunk_code}
-use Rattle.ostore_relocation.specs.Places.{IsBeside, LieBetween, holds_objects, page_pointers, cell_pointers}
+use Rattle.ostore_relocation.specs.Places.{IsBeside, LieBetween, holds_objects, page_pointers}
 use Rattle.ostore_relocation.specs.Forms.{pointers_end}
 use Rattle.ostore_relocation.specs.Fitness.{IsCellOf}
 use Rattle.ostore_relocation.specs.Stores.{AreZeros, PutsBeside}
 use Rattle.ostore_relocation.proofs.FormLaws.{pages_of_cells, pages_of_none}
 use Rattle.ostore_segments.specs.SchemaCells.{is_told, size_told}
-use Rattle.ostore_segments.specs.Edits.{IsBesideCell, AddsOne, KeepsCells, KeepsKind, PutsBesideCells}
+use Rattle.ostore_segments.specs.Edits.{IsBesideCell, KeepsCells, KeepsKind, PutsBesideCells}
 use Rattle.ostore_client_core.specs.Cells.{AreCellsOf, HasCellsOf}
 use Rattle.ostore_client_access.proofs.CellPointers.{cells_counted, pointers_in, pointers_are, pointers_append, lie_cells, beside_cells, all_last, last_zeros}
 

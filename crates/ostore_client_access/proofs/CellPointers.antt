@@ -1,9 +1,9 @@
 -- The pointers of a page by its cells.
-use Rattle.std.proofs.Common.{◌≡◌, ◌≢◌, ◌⊎◌, ℕ, zero, suc, ◌+◌, ◌-◌, ◌*◌, ◌<◌, ◌≤◌, ◌&&◌, ◌||◌, Bool, true, false, cond, eqb, leb, List, [], ◌∷◌, ◌++◌, length, map, drop, get_or, replicate, Some, None, refl, sym, ap, subst, ◌∙◌, arith, inl, inr}
+use Rattle.std.proofs.Common.{◌≡◌, ℕ, suc, ◌+◌, ◌-◌, ◌≤◌, Bool, true, false, List, [], ◌∷◌, ◌++◌, length, map, drop, get_or, replicate, refl, sym, ap, subst, ◌∙◌, arith, inl, inr}
 use Rattle.std.specs.List.{All, AllPairs, AllByRecursion, flat_map}
-use Rattle.std.proofs.lemmas.List.{get_or-drop, get_or-replicate, length-map, length-replicate, append-nil, append_assoc}
+use Rattle.std.proofs.lemmas.List.{get_or-drop, get_or-replicate, length-map, append-nil, append_assoc}
 use Rattle.ostore_schema_layout.specs.declared.schema.Schema.{Schema}
-use Rattle.ostore_schema_layout.specs.Cells.{HasCode, code_size, pointers_of}
+use Rattle.ostore_schema_layout.specs.Cells.{code_size, pointers_of}
 use Rattle.ostore_page_tags.specs.declared.tag_rows.Row.{Row}
 use Rattle.ostore_page_tags.specs.Numbers.{number_at}
 use Rattle.ostore_page_tags.specs.Header.{header_of}
@@ -16,7 +16,6 @@ use Rattle.ostore_relocation.specs.Fitness.{IsCellOf}
 use Rattle.ostore_relocation.specs.Stores.{AreZeros}
 use Rattle.ostore_relocation.proofs.PlaceLaws.{lie_lower, lie_append, lie_moved, lie_order, lie_code}
 use Rattle.ostore_segments.specs.Edits.{IsBesideCell}
-use Rattle.ostore_client_core.specs.Cells.{AreCellsOf}
 
 -- ---- rows and cells
 

@@ -1,5 +1,5 @@
 -- What the edits of a holder are to the lists for which it may stand.
-use Rattle.std.proofs.Common.{◌≡◌, ◌≢◌, ℕ, zero, suc, true, false, eqb, ◌+◌, ◌-◌, ◌*◌, ◌^◌, ◌<◌, ◌≤◌, List, [], ◌∷◌, length, refl, sym, ap, subst, ◌∙◌, arith}
+use Rattle.std.proofs.Common.{◌≡◌, ℕ, zero, suc, false, eqb, ◌+◌, ◌^◌, ◌<◌, List, length, sym, ap, subst, ◌∙◌, arith}
 use Rattle.std.specs.Prelude.{Result, Ok, Err, OnOk, IsSome, Option}
 use Rattle.byteorder.specs.Endian.{little_bytes}
 use Rattle.ostore_base.specs.Disk.{replaced}
@@ -14,9 +14,8 @@ use Rattle.ostore_client_core.specs.Cells.{HasCellsOf}
 use Rattle.ostore_client_core.specs.Attempts.{home_of}
 use Rattle.std.specs.Borrow.{GName}
 use Rattle.std.proofs.lemmas.Bool.{false≢true}
-use Rattle.ostore_base.specs.declared.page.PageImage.{PageImage}
 use Rattle.ostore_schema_layout.specs.declared.schema.Schema.{Schema}
-use Rattle.ostore_page_tags.specs.PageLists.{bytes_at, with_bytes}
+use Rattle.ostore_page_tags.specs.PageLists.{with_bytes}
 use Rattle.ostore_relocation.specs.Forms.{stored_form}
 use Rattle.ostore_relocation.proofs.BesideLaws.{puts_beside}
 use Rattle.ostore_segments.specs.Holdings.{Stands, Becomes}

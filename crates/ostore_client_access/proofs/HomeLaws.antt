@@ -1,13 +1,13 @@
 -- Resident pointers and the stored ones for which they stand.
-use Rattle.std.proofs.Common.{◌≡◌, ◌≢◌, ℕ, ◌+◌, ◌*◌, ◌/◌, ◌%◌, Bool, true, false, cond, eqb, List, [], ◌∷◌, Option, Some, None, refl, sym, ap, subst, ◌∙◌, arith, inl, inr}
+use Rattle.std.proofs.Common.{◌≡◌, ◌≢◌, ℕ, ◌+◌, ◌*◌, ◌/◌, ◌%◌, Bool, true, false, cond, eqb, List, [], ◌∷◌, Option, Some, None, refl, sym, ap, ◌∙◌, inl, inr}
 use Rattle.std.specs.Prelude.{IsSome}
 use Rattle.std.specs.Option.{option_map}
 use Rattle.std.specs.List.{AllByRecursion}
-use Rattle.std.proofs.lemmas.Bool.{cases_eq, eq-eqb, ne_eqb, eqb-true}
+use Rattle.std.proofs.lemmas.Bool.{cases_eq, eq-eqb, ne_eqb}
 use Rattle.ostore_base.specs.declared.numbers.PageNo.{PageNo}
 use Rattle.ostore_address_space.specs.Frames.{KeepsFrames, page_in}
 use Rattle.ostore_page_tags.specs.Numbers.{number_at}
-use Rattle.ostore_relocation.specs.Pointers.{page_number, same_place_in, stored_pointer, target}
+use Rattle.ostore_relocation.specs.Pointers.{page_number, stored_pointer}
 use Rattle.ostore_relocation.specs.Stores.{LeadsToFrame}
 use Rattle.ostore_segments.specs.Holdings.{KeepsHomes}
 use Rattle.ostore_segments.specs.Edits.{stored_or_null}

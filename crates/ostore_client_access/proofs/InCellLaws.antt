@@ -1,6 +1,6 @@
 -- Bytes in a live cell of a page, beside the cell's pointers.
-use Rattle.std.proofs.Common.{◌≡◌, ℕ, ◌+◌, ◌-◌, ◌*◌, ◌<◌, ◌≤◌, ◌&&◌, true, eqb, leb, List, length, map, get_or, Some, refl, sym, ap, subst, ◌∙◌, arith}
-use Rattle.std.specs.List.{All, AllByRecursion, Contains, slice_get}
+use Rattle.std.proofs.Common.{◌≡◌, ℕ, ◌+◌, ◌<◌, ◌≤◌, true, List, length, get_or, Some, refl, sym, ap, subst, ◌∙◌, arith}
+use Rattle.std.specs.List.{AllByRecursion, Contains, slice_get}
 use Rattle.std.specs.Option.{option_map}
 use Rattle.std.proofs.lemmas.Bool.{le-leb, eq-eqb}
 use Rattle.std.proofs.lemmas.Option.{slice_get-map, slice_get-get_or}
@@ -8,7 +8,7 @@ use Rattle.std.proofs.lemmas.List.Elements.{All-from_recursion, recursion_from_A
 use Rattle.ostore_base.specs.Disk.{replaced}
 use Rattle.ostore_base.specs.declared.page.PageImage.{PageImage}
 use Rattle.ostore_schema_layout.specs.declared.schema.Schema.{Schema}
-use Rattle.ostore_schema_layout.specs.Cells.{code_size, pointers_of}
+use Rattle.ostore_schema_layout.specs.Cells.{pointers_of}
 use Rattle.ostore_page_tags.specs.declared.tag_rows.Row.{Row}
 use Rattle.ostore_page_tags.specs.Header.{header_of}
 use Rattle.ostore_page_tags.specs.Rows.{rows_of}
@@ -18,7 +18,7 @@ use Rattle.ostore_page_tags.specs.PageLists.{bytes_at}
 use Rattle.ostore_page_tags.proofs.parts.ApartLaws.{IsPage-AreApart}
 use Rattle.ostore_page_tags.proofs.shape.PageShape.{IsPage-shape}
 use Rattle.ostore_page_tags.proofs.walks.NthLaws.{rows_counted}
-use Rattle.ostore_relocation.specs.Places.{IsBeside, holds_objects}
+use Rattle.ostore_relocation.specs.Places.{IsBeside}
 use Rattle.ostore_relocation.specs.Fitness.{HasCells, IsCellOf}
 use Rattle.ostore_relocation.proofs.CellBytes.{LieInCell, puts_in_cell, stays_cells}
 use Rattle.ostore_segments.specs.Edits.{HasBytesInCell}

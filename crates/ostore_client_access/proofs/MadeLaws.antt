@@ -1,9 +1,9 @@
 -- What a transaction has made in an attempt, and that its entry fits.
-use Rattle.std.proofs.Common.{◌≡◌, ℕ, true, false, List, refl, sym, ap, subst, ◌∙◌}
+use Rattle.std.proofs.Common.{◌≡◌, true, List, refl, sym, subst, ◌∙◌}
 use Rattle.std.specs.Prelude.{Result, Ok, Err, OnOk, IfOk, IfErr}
 use Rattle.ostore_base.specs.declared.page.PageImage.{PageImage}
 use Rattle.ostore_schema_layout.specs.declared.schema.Schema.{Schema}
-use Rattle.ostore_segments.specs.Holdings.{Stands, Becomes, Sees}
+use Rattle.ostore_segments.specs.Holdings.{Stands, Becomes}
 use Rattle.ostore_page_service.specs.Told.{Told}
 use Rattle.ostore_graph_model.specs.declared.values.Reply.{Reply}
 use Rattle.ostore_graph_model.specs.declared.commands.Script.{Script}
@@ -11,14 +11,13 @@ use Rattle.ostore_graph_model.specs.declared.commands.Txn.{Txn}
 use Rattle.ostore_graph_model.specs.declared.history.Entry.{Entry}
 use Rattle.ostore_graph_model.specs.Valid.{IsValid}
 use Rattle.ostore_client_core.specs.declared.fault.AttemptFault.{AttemptFault}
-use Rattle.ostore_client_core.specs.Clients.{ClientView, IsIdle, IsOwn}
+use Rattle.ostore_client_core.specs.Clients.{ClientView, IsIdle}
 use Rattle.ostore_client_core.specs.Attempts.{seen_list, Attempts, MayBe}
 use Rattle.ostore_client_core.proofs.SeenLaws.{nothing_made}
-use Rattle.ostore_segments.specs.declared.placement.NoSpace.{NoSpace}
 use Rattle.ostore_object_ops.specs.declared.stop.Stop.{Stop}
 use Rattle.ostore_object_ops.specs.declared.stop.Stop.TheVariants as stops
-use Rattle.ostore_object_ops.specs.Stops.{Stopped, IfNoSpace, IfOutOfMemory}
-use Rattle.ostore_object_ops.specs.Lines.{Transacts, LacksGrowth}
+use Rattle.ostore_object_ops.specs.Stops.{Stopped}
+use Rattle.ostore_object_ops.specs.Lines.{Transacts}
 use Rattle.ostore_client_access.specs.Accesses.{access_held, Passes, Fails}
 use Rattle.std.proofs.lemmas.Bool.{false≢true}
 use Rattle.ostore_graph_model.specs.Graph.{Graph}

@@ -1,11 +1,8 @@
 -- Calls of a client that were Ok, or failed, one after the other.
-use Rattle.std.proofs.Common.{◌≡◌, ℕ, ◌+◌, ◌≤◌, List, [], ◌∷◌, ◌++◌, refl, sym, ap, subst, ◌∙◌}
+use Rattle.std.proofs.Common.{◌≡◌, ℕ, sym, ap, subst, ◌∙◌}
 use Rattle.std.specs.Prelude.{Option, Some, IfSome, length}
 use Rattle.ostore_address_space.specs.Frames.{page_in}
-use Rattle.std.specs.Option.{option_map}
-use Rattle.ostore_base.specs.Faults.{Rose}
 use Rattle.ostore_base.specs.declared.numbers.PageNo.{PageNo}
-use Rattle.ostore_page_service.specs.declared.answers.Busy as answers
 use Rattle.ostore_page_service.specs.Told.{Told, SameRecords, StillServes, NoBusy}
 use Rattle.ostore_graph_model.specs.declared.commands.Script.{Script}
 use Rattle.ostore_graph_model.specs.declared.history.Entry.{Entry}
@@ -13,10 +10,10 @@ use Rattle.ostore_client_cache.specs.Caches.{used_pages}
 use Rattle.ostore_client_core.specs.declared.fault.AttemptFault.{AttemptFault}
 use Rattle.ostore_client_core.specs.declared.fault.AttemptFault.TheVariants.{Busy, NoSpace, CacheFull, SpaceFull, Commit, OutOfMemory}
 use Rattle.ostore_client_core.specs.Clients.{ClientView, IsOwn}
-use Rattle.ostore_client_core.specs.Attempts.{Narrows, MayBe}
+use Rattle.ostore_client_core.specs.Attempts.{Narrows}
 use Rattle.ostore_client_core.specs.Calls.{IsBusy, Refused}
-use Rattle.ostore_client_core.proofs.RecordLaws.{records_refl, records_then, calm_refl, calm_then}
-use Rattle.ostore_client_access.specs.Accesses.{Passes, Fails, Causes}
+use Rattle.ostore_client_core.proofs.RecordLaws.{calm_refl}
+use Rattle.ostore_client_access.specs.Accesses.{Fails, Causes}
 
 -- ---- why a page didn't come, and why it isn't owned
 

@@ -1,5 +1,5 @@
 -- The row of a root, written through a client.
-use Rattle.std.proofs.Common.{◌≡◌, ◌≢◌, ℕ, ◌+◌, ◌-◌, ◌*◌, ◌^◌, ◌<◌, ◌≤◌, Bool, true, false, cond, eqb, List, [], ◌∷◌, ◌++◌, length, replicate, refl, sym, ap, subst, ◌∙◌, arith, inl, inr}
+use Rattle.std.proofs.Common.{◌≡◌, ℕ, ◌^◌, ◌<◌, ◌≤◌, Bool, cond, List, [], ◌∷◌, length, replicate, sym, ap, subst, ◌∙◌, arith, inl, inr}
 use Rattle.std.specs.Prelude.{Option, IsSome}
 use Rattle.std.proofs.lemmas.Bool.{cases_eq, eq-eqb, ne_eqb}
 use Rattle.std.proofs.lemmas.List.{length-replicate}
@@ -7,10 +7,8 @@ use Rattle.byteorder.specs.Endian.{little_bytes}
 use Rattle.byteorder.specs.Numbers.{length-bytes_low_first}
 use Rattle.ostore_base.specs.Disk.{replaced}
 use Rattle.ostore_base.specs.declared.numbers.PageNo.{PageNo}
-use Rattle.ostore_base.specs.declared.page.PageImage.{PageImage}
 use Rattle.ostore_schema_layout.specs.declared.schema.Schema.{Schema}
 use Rattle.ostore_page_tags.specs.Numbers.{number_at, with_number}
-use Rattle.ostore_page_tags.specs.PageLists.{with_bytes}
 use Rattle.ostore_page_tags.proofs.bytes.ImageLaws.{length-replaced_within, number_at-with_number}
 use Rattle.ostore_relocation.specs.Places.{root_place}
 use Rattle.ostore_relocation.specs.Pointers.{stored_pointer}

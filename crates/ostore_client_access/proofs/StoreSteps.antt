@@ -1,6 +1,6 @@
 -- Bytes that are stored into a page that the attempt owns.
-use Rattle.std.proofs.Common.{◌≡◌, ◌≢◌, ℕ, ◌<◌, ◌≤◌, Bool, true, false, nat_eq, List, [], length, get_or, set, Option, Some, None, refl, sym, ap, subst, ◌∙◌, arith, inl, inr}
-use Rattle.std.specs.Prelude.{IsSome, slice_get}
+use Rattle.std.proofs.Common.{◌≡◌, ◌≢◌, ℕ, ◌<◌, ◌≤◌, true, nat_eq, List, [], length, get_or, set, Some, refl, sym, ap, subst, ◌∙◌, arith, inl, inr}
+use Rattle.std.specs.Prelude.{IsSome}
 use Rattle.std.specs.Option.{option_map}
 use Rattle.std.specs.Map.{lookup, set_value}
 use Rattle.std.proofs.lemmas.Bool.{cases_eq, false≢true}
@@ -22,8 +22,8 @@ use Rattle.ostore_client_cache.specs.Entries.{is_used, is_owner, is_in_use}
 use Rattle.ostore_client_cache.specs.Entries as entries
 use Rattle.ostore_client_cache.proofs.CountLaws.{long_set}
 use Rattle.ostore_client_core.specs.Cells.{HasCellsOf}
-use Rattle.ostore_client_core.specs.Clients.{ClientView, with_pages, entry_of, stored_image, is_page_used, IsResident, IsTied, IsTiedBy, IsOwn, AreUsedFirst}
-use Rattle.ostore_client_core.specs.Attempts.{seen, seen_list, IsBase, Attempts, MayBe, Narrows}
+use Rattle.ostore_client_core.specs.Clients.{ClientView, with_pages, entry_of, stored_image, is_page_used, IsResident, IsTied, IsTiedBy, AreUsedFirst}
+use Rattle.ostore_client_core.specs.Attempts.{seen, seen_list, IsBase, Attempts, Narrows}
 use Rattle.ostore_client_core.proofs.EntryLaws.{Pages, some_of, set_here, set_other}
 use Rattle.ostore_client_core.proofs.TiedLaws.{same_at}
 use Rattle.ostore_client_core.proofs.RecordLaws.{service_refl}

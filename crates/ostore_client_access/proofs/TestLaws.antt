@@ -1,5 +1,5 @@
 -- A script whose first client has one transaction.
-use Rattle.std.proofs.Common.{◌≡◌, ℕ, List, [], ◌∷◌, Some, refl, sym, ap, subst, ◌∙◌}
+use Rattle.std.proofs.Common.{◌≡◌, ℕ, List, [], ◌∷◌, Some, refl, sym, subst}
 use Rattle.std.specs.Prelude.{◌<◌, All}
 use Rattle.std.proofs.lemmas.List.Elements.{All-nil}
 use Rattle.ostore_schema_layout.specs.declared.schema.Schema.{Schema}

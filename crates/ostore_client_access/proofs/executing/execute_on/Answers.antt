@@ -1,5 +1,4 @@
-use Rattle.std.proofs.Common.{◌≡◌, List, subst, ◌∙◌}
-use Rattle.ostore_base.specs.declared.page.PageImage.{PageImage}
+use Rattle.std.proofs.Common.{subst, ◌∙◌}
 use Rattle.ostore_schema_layout.specs.declared.schema.Schema.{Schema}
 use Rattle.ostore_segments.specs.Holdings.{Stands}
 use Rattle.ostore_graph_model.specs.Valid.{IsValid}

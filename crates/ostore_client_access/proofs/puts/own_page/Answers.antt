@@ -1,6 +1,4 @@
-use Rattle.std.proofs.Common.{◌≡◌, ◌/◌, Some}
-use Rattle.std.specs.Prelude.{IfSome}
-use Rattle.ostore_client_core.specs.Calls.{IsBusy}
+use Rattle.std.proofs.Common.{◌/◌}
 use Rattle.ostore_client_access.specs.inside.Passing.{passes_then, fails_then}
 use Rattle.ostore_client_access.proofs.PassLaws.{narrows_then, own_fails}
 use Rattle.ostore_client_access.proofs.puts.own_page.Goals as goal

@@ -1,4 +1,4 @@
-use Rattle.std.proofs.Common.{refl, sym, ap, subst}
+use Rattle.std.proofs.Common.{sym, ap, subst}
 use Rattle.ostore_base.specs.declared.numbers.ClientNo.{ClientNo}
 use Rattle.ostore_page_service.specs.Holding.{IsEmpty}
 use Rattle.ostore_page_service.specs.Servers.{side_of, Serves}

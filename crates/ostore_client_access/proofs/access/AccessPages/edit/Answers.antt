@@ -1,6 +1,6 @@
-use Rattle.std.proofs.Common.{◌≡◌, ◌<◌, ◌≤◌, ◌+◌, length, sym, ◌∙◌, arith}
+use Rattle.std.proofs.Common.{length, sym, ◌∙◌, arith}
 use Rattle.std.proofs.lemmas.Bool.{eqb-true}
-use Rattle.ostore_client_access.proofs.AccessLaws.{stands_runs, stands_range, becomes_none}
+use Rattle.ostore_client_access.proofs.AccessLaws.{stands_range, becomes_none}
 use Rattle.ostore_client_access.proofs.EditLaws.{edited, ok_map, some_bytes}
 use Rattle.ostore_client_access.proofs.access.AccessPages.edit.Goals as goal
 

@@ -1,4 +1,4 @@
-use Rattle.std.proofs.Common.{◌≡◌, ◌<◌, ◌≤◌, ◌+◌, ◌^◌, length, ap, ◌∙◌, arith}
+use Rattle.std.proofs.Common.{length, ap, ◌∙◌, arith}
 use Rattle.byteorder.specs.Numbers.{length-bytes_low_first}
 use Rattle.ostore_client_access.proofs.AccessLaws.{stands_range}
 use Rattle.ostore_client_access.proofs.EditLaws.{pointed, ok_map}

@@ -1,4 +1,3 @@
-use Rattle.std.proofs.Common.{◌<◌}
 use Rattle.ostore_client_access.proofs.AccessLaws.{stands_runs, stands_range, becomes_narrows}
 use Rattle.ostore_client_access.proofs.access.AccessPages.enter.Goals as goal
 
