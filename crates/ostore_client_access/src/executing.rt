@@ -6,8 +6,10 @@ ghost use Rattle.ostore_schema_layout.specs.Lawful.{IsLawful};
 ghost use Rattle.ostore_client_core.specs.Clients.{IsIdle, IsOwn};
 ghost use Rattle.ostore_client_core.specs.Attempts.{Attempts};
 ghost use Rattle.ostore_object_ops.specs.Suits.{IsOfInts, IsBuilt};
-ghost use Rattle.ostore_object_ops.specs.Stops.{Stopped};
-ghost use Rattle.ostore_client_access.specs.Accesses.{Passes, Fails};
+ghost use Rattle.ostore_segments.specs.Holdings.{Becomes};
+ghost use Rattle.ostore_object_ops.specs.Stops.{Stopped, IfNoSpace};
+ghost use Rattle.ostore_object_ops.specs.Lines.{LacksGrowth};
+ghost use Rattle.ostore_client_access.specs.Accesses.{access_held, Passes, Fails};
 ghost use Rattle.ostore_client_core.specs.Commits.{FitsClient};
 ghost use Rattle.ostore_client_access.specs.Attempts.{HasMade, IsEntryOf};
 
@@ -49,6 +51,11 @@ pub fn execute_on<M: Mapper, S: PageService<GraphKind>>(
         (Passes (S.serves access.old.service.now) (S.serves access.new.service.now)
         (S.tells access.old.service.now) (S.tells access.new.service.now)
         access.old.client.now access.new.client.now)) }
+    ensures space { IfErr result (IfNoSpace (λ no. Becomes
+        (access_held (S.serves access.old.service.now) (S.tells access.old.service.now)
+        access.old.client.now)
+        (access_held (S.serves access.new.service.now) (S.tells access.new.service.now)
+        access.new.client.now) (λ old new. LacksGrowth txn.now old))) }
     ensures client { access.new.client.ghost_name ≡ access.old.client.ghost_name }
     ensures service { access.new.service.ghost_name ≡ access.old.service.ghost_name }
     ensures schema { access.new.client.now.schema ≡ access.old.client.now.schema }
@@ -57,7 +64,8 @@ pub fn execute_on<M: Mapper, S: PageService<GraphKind>>(
 }
 
 /// Executes the commands of a transaction in an attempt that has begun, and gives its replies. The schema is the
-/// client's, and the commands are of those that run. Where it stops, the attempt is to be aborted.
+/// client's, and the commands are of those that run. NoSpace comes only where fewer pages were free than the
+/// transaction may take. Where it stops, the attempt is to be aborted.
 pub fn execute<M: Mapper, S: PageService<GraphKind>>(
     alloc: Global,
     client: &mut Client<'_, M>,
@@ -82,6 +90,10 @@ pub fn execute<M: Mapper, S: PageService<GraphKind>>(
         (S.tells service.old) (S.tells service.new) client.old client.new)
         (Passes (S.serves service.old) (S.serves service.new)
         (S.tells service.old) (S.tells service.new) client.old client.new)) }
+    ensures space { IfErr result (IfNoSpace (λ no. Becomes
+        (access_held (S.serves service.old) (S.tells service.old) client.old)
+        (access_held (S.serves service.new) (S.tells service.new) client.new)
+        (λ old new. LacksGrowth txn.now old))) }
     ensures schema { client.new.schema ≡ client.old.schema }
 {
     let mut access = Access { client, service };
