@@ -99,6 +99,9 @@ pub record Comes (serves later : Script → Type 0) (told now : Told Entry) (old
   pub first : AreUsedFirst new.pages
   pub some : (base : List PageImage) × IsBase new.schema now base
 
+pub owns_is : {old new : ClientView} → new ≡ old → OwnsNoMore old new
+owns_is is page owned = sym (ap (λ (v : ClientView). is_owned (entry_of v page)) is) ∙ owned
+
 idle_unowned : (found : Option CachedPage) → is_in_use found ≡ false → is_owned found ≡ true → ⊥
 idle_unowned None idle owned = false≢true owned
 idle_unowned (Some entry) idle owned = by entry.hold idle owned

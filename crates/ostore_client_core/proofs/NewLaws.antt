@@ -41,6 +41,14 @@ pub record Trims (old admitted mid : ClientView) (page : ℕ) : Type 0 where
 abbrev pub way : ClientView → ℕ → Option PageNo
 way old page = surplus ((page, fresh) ∷ old.pages) old.most
 
+-- what is left of a page that was lost
+pub record IsLost (later : Script → Type 0) (was now : Told Entry) (old mid new : ClientView) (page : ℕ) : Type 0 where
+  pub gone : entry_of new page ≡ None
+  pub own : IsOwn later now new
+  pub owns : OwnsNoMore old new
+  pub client : SameClient old new
+  pub few : length mid.frames.pages < length was.opened
+
 dropped_held : (o : Option PageNo) (told now : Told Entry) → Drops o told now → (q : ℕ) → now.mine.held q ≡ told.mine.held q
 dropped_held None told now drops q = ap (λ (t : Told Entry). t.mine.held q) drops
 dropped_held (Some p) told now drops q = drops.held q
@@ -85,14 +93,6 @@ module _ (serves : Script → Type 0) (told : Told Entry) (old : ClientView) (pa
       )
 
   module _ (admitted mid : ClientView) (t : Trims old admitted mid page) where
-    -- what is left where no frame was found
-    pub record IsLost (later : Script → Type 0) (was now : Told Entry) (new : ClientView) : Type 0 where
-      pub gone : entry_of new page ≡ None
-      pub own : IsOwn later now new
-      pub owns : OwnsNoMore old new
-      pub client : SameClient old new
-      pub few : length mid.frames.pages < length was.opened
-
     pub mid_pages : mid.pages ≡ (page, fresh) ∷ without_one (way old page) old.pages
     mid_pages =
         ap (λ (v : ClientView). v.pages) t.mid_is ∙ ap (λ (v : ClientView). trimmed v.most v.pages) t.admitted_is
@@ -153,7 +153,7 @@ module _ (serves : Script → Type 0) (told : Told Entry) (old : ClientView) (pa
 
     -- it was lost
     pub new_lost : (later : Script → Type 0) (fault : AttemptFault) (claimed dropped now : Told Entry) (new : ClientView) (page_no : PageNo) (image : PageImage) → page_no.0 ≡ page → ((s : Script) → serves s → later s) → SameService told now
-        → SameElsewhere told.mine claimed.mine page → Drops (way old page) claimed dropped → AllByRecursion (λ (p : PageNo). p.0 < length told.opened) (pages_wanted old.schema page_no image.bytes) → (w : WasLost fault mid new page_no image dropped.mine now.mine) → IsLost later told now new
+        → SameElsewhere told.mine claimed.mine page → Drops (way old page) claimed dropped → AllByRecursion (λ (p : PageNo). p.0 < length told.opened) (pages_wanted old.schema page_no image.bytes) → (w : WasLost fault mid new page_no image dropped.mine now.mine) → IsLost later told now old mid new page
     new_lost later fault claimed dropped now new page_no image same served service claim drops low w =
         let l = w.lost in
         let pages : new.pages ≡ without_one (way old page) old.pages = lost_pages mid new page_no image w.frames l ∙ ap (λ (n : ℕ). remove_entry (nat_eq n) mid.pages) same ∙ mid_rest in
