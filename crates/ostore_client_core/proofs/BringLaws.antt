@@ -104,12 +104,12 @@ owns_is is page owned = sym (ap (λ (v : ClientView). is_owned (entry_of v page)
 
 idle_unowned : (found : Option CachedPage) → is_in_use found ≡ false → is_owned found ≡ true → ⊥
 idle_unowned None idle owned = false≢true owned
-idle_unowned (Some entry) idle owned = by entry.hold idle owned
+idle_unowned (Some entry) idle owned = go entry.hold idle owned
   where
-    by : (held : Hold) → is_used held ≡ false → is_owner held ≡ true → ⊥
-    by hold.Retained idle owned = false≢true owned
-    by hold.InUse idle owned = false≢true owned
-    by hold.Owned idle owned = false≢true (sym idle)
+    go : (held : Hold) → is_used held ≡ false → is_owner held ≡ true → ⊥
+    go hold.Retained idle owned = false≢true owned
+    go hold.InUse idle owned = false≢true owned
+    go hold.Owned idle owned = false≢true (sym idle)
 
 -- a page that is as it was, or in use neither before nor after, was owned before where it is now
 pub owned_before : (old new : ClientView) (before after : Side Entry) (other : ℕ) → KeepsPage old new before after other ⊎ ((is_in_use (entry_of old other) ≡ false) × (is_in_use (entry_of new other) ≡ false)) → is_owned (entry_of new other) ≡ true → is_owned (entry_of old other) ≡ true

@@ -56,11 +56,11 @@ record IsKept (p : CachedPage → Bool) (o : Option CachedPage) : Type 0 where
 
 kept_by : (p : CachedPage → Bool) (o : Option CachedPage) → IsSome (option_filter p o) → IsKept p o
 kept_by p None some = absurd cc
-kept_by p (Some entry) some = by (p entry) refl some
+kept_by p (Some entry) some = go (p entry) refl some
   where
-    by : (b : Bool) → p entry ≡ b → IsSome (cond b (Some entry) None) → IsKept p (Some entry)
-    by true is some = record { entry = entry; is = refl; passes = is }
-    by false is some = absurd cc
+    go : (b : Bool) → p entry ≡ b → IsSome (cond b (Some entry) None) → IsKept p (Some entry)
+    go true is some = record { entry = entry; is = refl; passes = is }
+    go false is some = absurd cc
 
 module _ (pages : Pages) (distinct : IsDistinct nat_eq (keys_of pages)) where
   used_at : (i : ℕ) → i < length (keys_of (used_pages pages)) → IsKept (λ e. is_used e.hold) (lookup (nat_eq (get_or (keys_of (used_pages pages)) i 0)) pages)
@@ -179,27 +179,24 @@ some_or : (o : Option Frame) (b : Bool) → is_some o ≡ b → (b ≡ false →
 some_or None b is = ((λ _. refl), (λ yes _. false≢true (is ∙ yes)))
 some_or (Some frame) b is = ((λ no. absurd (false≢true (sym no ∙ sym is))), (λ _ none. none_some (sym none)))
 
+abbrev LeavesAs : Frames → PageNo → List (Option PageNo) → Type 0
+LeavesAs frames page pages = ((count : ℕ) → page.0 < count → AreKnown count frames.pages → AreKnown count pages) × (frame_of pages page.0 ≡ None → free_frames pages ≡ [])
+
+leaves_given : (choice : ℕ → ℕ → ℕ → ℕ) (frames : Frames) (page : PageNo) → frame_of frames.pages page.0 ≡ None → LeavesAs frames page (pages_with choice frames page (free_frames frames.pages))
+leaves_given choice frames page nowhere = elim (given_as choice frames page (free_frames frames.pages) refl) as (λ _. LeavesAs frames page (pages_with choice frames page (free_frames frames.pages))) [
+  | inl same ↦ subst (LeavesAs frames page) (sym same.0) ((λ count low known. known), (λ none. same.1))
+  | inr g ↦ subst (LeavesAs frames page) (sym g.is) (
+    (λ count low known. set_known frames.pages g.at count page g.below low known),
+    (λ none. absurd (none_some (sym none ∙ frame_there 1 frames.pages g.at page g.below g.free nowhere))),
+  )
+]
+
+leaves_by : (choice : ℕ → ℕ → ℕ → ℕ) (frames : Frames) (page : PageNo) (b : Bool) → is_some (frame_of frames.pages page.0) ≡ b → LeavesAs frames page (cond b frames.pages (pages_with choice frames page (free_frames frames.pages)))
+leaves_by choice frames page true is = ((λ count low known. known), (λ none. absurd ((some_or (frame_of frames.pages page.0) true is).1 refl none)))
+leaves_by choice frames page false is = leaves_given choice frames page ((some_or (frame_of frames.pages page.0) false is).0 refl)
+
 leaves : (choice : ℕ → ℕ → ℕ → ℕ) (frames : Frames) (page : PageNo) → Leaves choice frames page
-leaves choice frames page = by (is_some (frame_of frames.pages page.0)) refl
-  where
-    abbrev Is : List (Option PageNo) → Type 0
-    Is pages = ((count : ℕ) → page.0 < count → AreKnown count frames.pages → AreKnown count pages) × (frame_of pages page.0 ≡ None → free_frames pages ≡ [])
-
-    given : frame_of frames.pages page.0 ≡ None → Is (pages_with choice frames page (free_frames frames.pages))
-    given nowhere = elim (given_as choice frames page (free_frames frames.pages) refl) as (λ _. Is (pages_with choice frames page (free_frames frames.pages))) [
-      | inl same ↦ subst Is (sym same.0) ((λ count low known. known), (λ none. same.1))
-      | inr g ↦ subst Is (sym g.is) (
-        (λ count low known. set_known frames.pages g.at count page g.below low known),
-        (λ none. absurd (none_some (sym none ∙ frame_there 1 frames.pages g.at page g.below g.free nowhere))),
-      )
-    ]
-
-    as : (b : Bool) → is_some (frame_of frames.pages page.0) ≡ b → Is (cond b frames.pages (pages_with choice frames page (free_frames frames.pages)))
-    as true is = ((λ count low known. known), (λ none. absurd ((some_or (frame_of frames.pages page.0) true is).1 refl none)))
-    as false is = given ((some_or (frame_of frames.pages page.0) false is).0 refl)
-
-    by : (b : Bool) → is_some (frame_of frames.pages page.0) ≡ b → Leaves choice frames page
-    by b is = let done = as (is_some (frame_of frames.pages page.0)) refl in record { known = done.0; lacks = done.1 }
+leaves choice frames page = let done = leaves_by choice frames page (is_some (frame_of frames.pages page.0)) refl in record { known = done.0; lacks = done.1 }
 
 known_as : (b : Bool) (x y : Reserving) (count : ℕ) → AreKnown count x.frames.pages → AreKnown count y.frames.pages → AreKnown count (cond b x y).frames.pages
 known_as true x y count h k = h
@@ -220,18 +217,17 @@ record Finds (P : PageNo → Type 0) (pages : List (Option PageNo)) : Type 0 whe
   pub nowhere : frame_of pages page.0 ≡ None
   pub full : free_frames pages ≡ []
 
+finds_as : (P : PageNo → Type 0) (b : Bool) (x y : Reserving) → (x.all ≡ false → Finds P x.frames.pages) → (b ≡ false → Finds P y.frames.pages) → (cond b x y).all ≡ false → Finds P (cond b x y).frames.pages
+finds_as P true x y more here lacks = more lacks
+finds_as P false x y more here lacks = here refl
+
 finds : (P : PageNo → Type 0) (choice : ℕ → ℕ → ℕ → ℕ) (frames : Frames) (pages : List PageNo) → AllByRecursion P pages → (reserve_all choice frames pages).all ≡ false → Finds P (reserve_all choice frames pages).frames.pages
 finds P choice frames [] all lacks = absurd (false≢true (sym lacks))
-finds P choice frames (page ∷ pages) all lacks = as (is_some (frame_of next.pages page.0)) refl lacks
-  where
-    abbrev next : Frames
-    next = reserve choice frames page
-
-    as : (b : Bool) → is_some (frame_of next.pages page.0) ≡ b → (cond b (reserve_all choice next pages) (reserving next false)).all ≡ false → Finds P (cond b (reserve_all choice next pages) (reserving next false)).frames.pages
-    as true is lacks = finds P choice next pages all.1 lacks
-    as false is lacks =
-        let none = (some_or (frame_of next.pages page.0) false is).0 refl in
-        record { page = page; is = all.0; nowhere = none; full = (leaves choice frames page).lacks none }
+finds P choice frames (page ∷ pages) all lacks =
+    let next : Frames = reserve choice frames page in
+    finds_as P (is_some (frame_of next.pages page.0)) (reserve_all choice next pages) (reserving next false) (λ l. finds P choice next pages all.1 l)
+    (λ is. let none = (some_or (frame_of next.pages page.0) false is).0 refl in record { page = page; is = all.0; nowhere = none; full = (leaves choice frames page).lacks none })
+    lacks
 
 -- where one finds no frame, the frames are fewer than the pages of the database
 pub lacking_below : (choice : ℕ → ℕ → ℕ → ℕ) (frames : Frames) (pages : List PageNo) (count : ℕ) → AreKnown count frames.pages → AllByRecursion (λ (p : PageNo). p.0 < count) pages
