@@ -1,6 +1,6 @@
 -- An update that lacks its growth somewhere in a history: the script lacked its growth at the beginning.
 use Rattle.std.proofs.Common.{◌≡◌, ℕ, ◌+◌, ◌-◌, ◌<◌, ◌≤◌, Bool, true, false, List, [], ◌∷◌, ◌++◌, length, get_or, Option, Some, refl, sym, ap, subst, ◌∙◌, arith}
-use Rattle.std.specs.Prelude.{All, AllPairs, filter, flat_map, if◌then◌else◌}
+use Rattle.std.specs.Prelude.{All, AllPairs, filter, flat_map, nat_eq, if◌then◌else◌}
 use Rattle.std.specs.FinMap as maps
 use Rattle.std.specs.List.{sum_by}
 use Rattle.std.proofs.lemmas.Bool.{eq-eqb}
@@ -166,7 +166,7 @@ space_law script first n client ordinal opened list records reached txn ahead la
     All-push (IsNamed script) h e (λ k d lt. record { txn = (legal.named k d lt).0; named = (legal.named k d lt).1.named }) (record { txn = txn; named = ahead.named }) in
     let order : AllPairs (InOrder graph_meaning script) (reached.history ++ ahead_entry client ordinal ∷ []) =
     all_pairs_push (InOrder graph_meaning script) h e legal.order
-    (λ k d lt same. from_filter (λ (r : Entry × ℕ). graph_meaning.client r.0 == client) (λ (r : Entry × ℕ). r.0.ordinal < ordinal) h
+    (λ k d lt same. from_filter (λ (r : Entry × ℕ). nat_eq (graph_meaning.client r.0) client) (λ (r : Entry × ℕ). r.0.ordinal < ordinal) h
         (subst (All (λ (r : Entry × ℕ). r.0.ordinal < ordinal)) (sym reached.mine) ahead.rises) k d lt (eq-eqb (client_of (get_or h k d)) client same)) in
     let commands = all_weigh count count-append script (reached.history ++ ahead_entry client ordinal ∷ []) named order in
     let indexes = all_weigh declared declared-append script (reached.history ++ ahead_entry client ordinal ∷ []) named order in

@@ -28,7 +28,7 @@ pub record IsNamed (script : Script) (e : Entry × ℕ) : Type 0 where
   pub named : txn_at script e.0.client.0 e.0.ordinal ≡ Some txn
 
 -- the commands that an entry made, where they may change a graph
-abbrev commands_of : Option Txn → List Command
+abbrev pub commands_of : Option Txn → List Command
 commands_of None = []
 commands_of (Some txn) = update_commands txn
 
