@@ -1,7 +1,6 @@
 -- What the results of a run by turns say, whatever the turns were.
 use Rattle.std.specs.Prelude.{◌≡◌, ◌≤◌, ◌==◌, ℕ, Bool, true, false, List, filter}
 use Rattle.ostore_graph_model.specs.declared.commands.Txn.{Txn}
-use Rattle.ostore_graph_model.specs.declared.history.Committed.{Committed}
 use Rattle.ostore_job_text.specs.RunnableJobs.{CanRun}
 use Rattle.ostore_job_text.specs.declared.job.Job.{Job}
 use Rattle.ostore_job_text.specs.declared.job.JobClient.{JobClient}
