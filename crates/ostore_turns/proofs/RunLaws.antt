@@ -78,11 +78,11 @@ passes_idle job count most number before now old run first low idle opened n is 
 
 -- ---- whose places they are
 
-get_past : {X : Type 0} (xs ys : List X) (k : ℕ) → slice_get (xs ++ ys) (length xs + k) ≡ slice_get ys k
+pub get_past : {X : Type 0} (xs ys : List X) (k : ℕ) → slice_get (xs ++ ys) (length xs + k) ≡ slice_get ys k
 get_past [] ys k = ap (slice_get ys) (let e : 0 + k ≡ k = omega arith in e)
 get_past (x ∷ xs) ys k = ap (slice_get (x ∷ xs ++ ys)) (let e : length (x ∷ xs) + k ≡ suc (length xs + k) = omega arith in e) ∙ get_past xs ys k
 
-get_repeated : {X : Type 0} (count : ℕ) (x : X) (ys : List X) (k : ℕ) → k < count → slice_get (replicate count x ++ ys) k ≡ Some x
+pub get_repeated : {X : Type 0} (count : ℕ) (x : X) (ys : List X) (k : ℕ) → k < count → slice_get (replicate count x ++ ys) k ≡ Some x
 get_repeated zero x ys k low = absurd (omega arith)
 get_repeated (suc count) x ys zero low = refl
 get_repeated (suc count) x ys (suc k) low = get_repeated count x ys k (omega arith)
@@ -167,7 +167,7 @@ limits_get (first ∷ clients) (suc i) client all there = limits_get clients i c
 pub limits_at : (clients : List JobClient) (i : ℕ) (client : JobClient) → AllByRecursion IsWithinLimits clients → slice_get clients i ≡ Some client → IsWithinLimits client
 limits_at = limits_get
 
-first_fits : (client : JobClient) (at : Place) → at ≡ first_place → IsWithinLimits client → IsFitPlace client at
+pub first_fits : (client : JobClient) (at : Place) → at ≡ first_place → IsWithinLimits client → IsFitPlace client at
 first_fits client at first limits = subst (IsFitPlace client) (sym first) (let some = limits.some in record { low = omega arith; tries = omega arith; short = omega arith; line = λ txn there. omega arith })
 
 pub first_seated : (clients : List JobClient) (now : Moment) (run : Run) → IsFirst now → run.seats.items ≡ replicate (length clients) first_seat → AllByRecursion IsWithinLimits clients → AreSeated clients now run
@@ -266,7 +266,7 @@ spent_few (seat ∷ seats) low =
     let all : sum_by (λ (seat : Seat). rank seat.place) (seat ∷ seats) ≡ rank seat.place + sum_by (λ (seat : Seat). rank seat.place) seats = sum_by-cons (λ (seat : Seat). rank seat.place) seat seats in
     omega (arith, first, rest, all))
 
-has_client : (clients : List JobClient) (i : ℕ) → i < length clients → (client : JobClient) × (slice_get clients i ≡ Some client)
+pub has_client : (clients : List JobClient) (i : ℕ) → i < length clients → (client : JobClient) × (slice_get clients i ≡ Some client)
 has_client [] i low = absurd (omega arith)
 has_client (client ∷ clients) zero low = (client, refl)
 has_client (client ∷ clients) (suc i) low = has_client clients i (omega arith)

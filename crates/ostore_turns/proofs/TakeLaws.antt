@@ -66,12 +66,12 @@ onto results (Some one) = refl
 ended_more : (number : ℕ) (client : JobClient) (turns : List Turn) (turn : Turn) → ended_by number client (turns ++ turn ∷ []) ≡ and_maybe (ended_by number client turns) (result_at number client turn)
 ended_more number client turns turn = filter_map-append (result_at number client) turns (turn ∷ []) ∙ onto (ended_by number client turns) (result_at number client turn)
 
-result_mine : (number : ℕ) (client : JobClient) (txn : Txn) (turn : Turn) → turn.client ≡ number → slice_get client.txns turn.at.txn ≡ Some txn → result_at number client turn ≡ result_by txn.update client.tries turn.at turn.gave
+pub result_mine : (number : ℕ) (client : JobClient) (txn : Txn) (turn : Turn) → turn.client ≡ number → slice_get client.txns turn.at.txn ≡ Some txn → result_at number client turn ≡ result_by txn.update client.tries turn.at turn.gave
 result_mine number client txn turn mine there =
     ap (λ (b : Bool). cond b (option_and_then (λ (txn : Txn). result_by txn.update client.tries turn.at turn.gave) (slice_get client.txns turn.at.txn)) None) (eq-eqb turn.client number mine)
     ∙ ap (option_and_then (λ (txn : Txn). result_by txn.update client.tries turn.at turn.gave)) there
 
-result_other : (number : ℕ) (client : JobClient) (turn : Turn) → turn.client ≢ number → result_at number client turn ≡ None
+pub result_other : (number : ℕ) (client : JobClient) (turn : Turn) → turn.client ≢ number → result_at number client turn ≡ None
 result_other number client turn apart = elim (eqb_tells turn.client number) [
   | inl same ↦ absurd (apart same.1)
   | inr other ↦ ap (λ (b : Bool). cond b (option_and_then (λ (txn : Txn). result_by txn.update client.tries turn.at turn.gave) (slice_get client.txns turn.at.txn)) None) other.0
@@ -143,10 +143,10 @@ come_more job opened n before after old new number went seated whose come =
 
 -- ---- its seat
 
-moved_here : (number tries : ℕ) (gave : Gave) (places : ℕ → Place) → moved_one number tries gave places number ≡ moved tries (places number) gave
+pub moved_here : (number tries : ℕ) (gave : Gave) (places : ℕ → Place) → moved_one number tries gave places number ≡ moved tries (places number) gave
 moved_here number tries gave places = ap (λ (b : Bool). cond b (moved tries (places number) gave) (places number)) (eq-eqb number number refl)
 
-moved_other : (number tries other : ℕ) (gave : Gave) (places : ℕ → Place) → other ≢ number → moved_one number tries gave places other ≡ places other
+pub moved_other : (number tries other : ℕ) (gave : Gave) (places : ℕ → Place) → other ≢ number → moved_one number tries gave places other ≡ places other
 moved_other number tries other gave places apart = elim (eqb_tells other number) [
   | inl same ↦ absurd (apart same.1)
   | inr differs ↦ ap (λ (b : Bool). cond b (moved tries (places other) gave) (places other)) differs.0
