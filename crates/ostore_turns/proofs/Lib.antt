@@ -7,3 +7,4 @@ pub mod RecordedLaws
 pub mod EntryLaws
 pub mod AloneLaws
 pub mod SerialLaws
+pub mod DiskLaws

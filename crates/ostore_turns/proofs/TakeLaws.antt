@@ -63,7 +63,7 @@ onto : (results : List TxnResult) (ended : Option TxnResult) → results ++ cons
 onto results None = append-nil results
 onto results (Some one) = refl
 
-ended_more : (number : ℕ) (client : JobClient) (turns : List Turn) (turn : Turn) → ended_by number client (turns ++ turn ∷ []) ≡ and_maybe (ended_by number client turns) (result_at number client turn)
+pub ended_more : (number : ℕ) (client : JobClient) (turns : List Turn) (turn : Turn) → ended_by number client (turns ++ turn ∷ []) ≡ and_maybe (ended_by number client turns) (result_at number client turn)
 ended_more number client turns turn = filter_map-append (result_at number client) turns (turn ∷ []) ∙ onto (ended_by number client turns) (result_at number client turn)
 
 pub result_mine : (number : ℕ) (client : JobClient) (txn : Txn) (turn : Turn) → turn.client ≡ number → slice_get client.txns turn.at.txn ≡ Some txn → result_at number client turn ≡ result_by txn.update client.tries turn.at turn.gave

@@ -1,6 +1,6 @@
 -- What the results of a run by turns say, whatever the turns were.
-use Rattle.std.specs.Prelude.{◌≡◌, ◌≤◌, ℕ, Bool, true, false, List, length, Some}
-use Rattle.std.specs.List.{slice_get}
+use Rattle.std.specs.Prelude.{◌≡◌, ◌≤◌, ℕ, Bool, true, false, if◌then◌else◌, List, length, filter, Some}
+use Rattle.std.specs.List.{slice_get, sum_by}
 use Rattle.ostore_graph_model.specs.declared.commands.Txn.{Txn}
 use Rattle.ostore_job_text.specs.RunnableJobs.{CanRun}
 use Rattle.ostore_job_text.specs.declared.job.Job.{Job}
@@ -47,6 +47,30 @@ AreRight job run =
 abbrev pub ResultsAreRight : Type 0
 ResultsAreRight = (job : Job) (first after : Moment) (run : TurnsRun) → CanRun job → IsFirst first → IsRunBy job first after run
     → AreRight job run
+
+-- ---- disk calls that failed
+
+-- the transaction was given up as a disk call failed
+abbrev pub is_disk_fault : TxnResult → Bool
+is_disk_fault (Commit number tries replies) = false
+is_disk_fault (Read number tries replies) = false
+is_disk_fault (Abort tries) = false
+is_disk_fault (GaveUp tries (Busy page seen found)) = false
+is_disk_fault (GaveUp tries (NoSpace segment need)) = false
+is_disk_fault (GaveUp tries (CacheFull used capacity)) = false
+is_disk_fault (GaveUp tries (SpaceFull frames)) = false
+is_disk_fault (GaveUp tries Disk) = true
+is_disk_fault (GaveUp tries (Stopped after)) = false
+is_disk_fault NotRun = false
+
+-- how many were
+abbrev pub disk_faults : List (List TxnResult) → ℕ
+disk_faults results = sum_by (λ mine. length (filter is_disk_fault mine)) results
+
+-- exactly one where a disk call failed, and none else
+abbrev pub DiskFaultsAreTold : Type 0
+DiskFaultsAreTold = (job : Job) (first after : Moment) (run : TurnsRun) → IsRunBy job first after run
+    → disk_faults run.results ≡ (if run.disk_failed then 1 else 0)
 
 -- ---- the records of the last moment
 

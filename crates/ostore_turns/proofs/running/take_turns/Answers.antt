@@ -1,4 +1,4 @@
-use Rattle.std.proofs.Common.{◌≡◌, ◌+◌, ◌*◌, ◌<◌, ◌≤◌, ◌∙◌, ℕ, Bool, false, List, length, take, get_or, sym, ap, subst, arith, Some}
+use Rattle.std.proofs.Common.{◌≡◌, ◌+◌, ◌*◌, ◌<◌, ◌≤◌, ◌∙◌, ℕ, Bool, false, List, length, take, get_or, refl, sym, ap, subst, arith, Some}
 use Rattle.std.specs.List.{slice_get}
 use Rattle.std.proofs.lemmas.List.{take_all}
 use Rattle.std.proofs.lemmas.Option.{slice_get-get_or}
@@ -7,6 +7,7 @@ use Rattle.ostore_turns.specs.Bounds.{AreBounded}
 use Rattle.ostore_turns.specs.inside.Steps.{AreTurns, HasCome, Passes, spent}
 use Rattle.ostore_turns.specs.Schedules.{entry_clients}
 use Rattle.ostore_turns.proofs.RunLaws.{first_seated, first_within, first_come, entry_passed, round_passed, is_run, are_bounded, spent_low}
+use Rattle.ostore_turns.proofs.DiskLaws.{disk_may_fail}
 use Rattle.ostore_turns.proofs.running.take_turns.Goals as goal
 
 pub loop-entry-init : goal.loop-entry-init
@@ -75,8 +76,9 @@ loop-run-smaller g c =
     let low = spent_low job.clients (g.S.Attempts.moment c.take_round.new.store) c.take_round.new.self c.requires.job.few c.requires.job.clients c.in_ok-take_round.ensures.seated in
     omega (arith, later, low)
 
-pub returns-clause-run : goal.returns-clause-run
-returns-clause-run g c =
+-- what is said of the run
+by_turns : goal.returns-clause-run
+by_turns g c =
     let job = c.args.job.now in
     let now = g.S.Attempts.moment c.take_round.new.store in
     let run = c.take_round.new.self in
@@ -85,10 +87,21 @@ returns-clause-run g c =
     subst (λ (took : Bool). AreTurns job.clients (length job.clients) took c.loop-run.run now run) c.if-branch.false c.in_ok-take_round.ensures.turns in
     is_run job (g.S.Attempts.moment c.args.store.now) now run c.in_ok-results.results rounds c.in_ok-take_round.ensures.seated turns.1 c.in_ok-results.ensures
 
-pub returns-clause-bounded : goal.returns-clause-bounded
-returns-clause-bounded g c =
+within : goal.returns-clause-bounded
+within g c =
     let job = c.args.job.now in
     let constants : g.S.Attempts.constants c.take_round.new.store ≡ g.S.Attempts.constants c.args.store.now = c.take_round.ensures.constants ∙ c.loop-run.invariant.constants in
     subst (λ (k : g.S.Attempts.Constants). AreBounded (g.S.Attempts.bounds k) job.clients c.in_ok-results.results) constants
     (are_bounded (g.S.Attempts.bounds (g.S.Attempts.constants c.take_round.new.store)) job.clients (g.S.Attempts.moment c.take_round.new.store) c.take_round.new.self c.in_ok-results.results
     c.in_ok-take_round.ensures.seated c.in_ok-take_round.ensures.within c.in_ok-results.ensures)
+
+pub returns-clause-run : goal.returns-clause-run
+returns-clause-run = by_turns
+
+pub returns-clause-bounded : goal.returns-clause-bounded
+returns-clause-bounded = within
+
+pub returns-clause-failed : goal.returns-clause-failed
+returns-clause-failed g c =
+    disk_may_fail c.args.job.now (g.S.Attempts.moment c.args.store.now) (g.S.Attempts.moment c.take_round.new.store) (record { results = c.in_ok-results.results; disk_failed = c.take_round.new.self.stopped })
+    (g.S.Attempts.bounds (g.S.Attempts.constants c.args.store.now)) (by_turns g c) (within g c)
