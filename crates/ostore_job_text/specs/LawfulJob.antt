@@ -58,9 +58,13 @@ IsLawfulTxn txn = AllByRecursion IsLawfulCommand txn.commands
 abbrev pub IsLawfulSetting : JobClient → Setting → Type 0
 IsLawfulSetting client setting = (1 ≤ setting_of client setting) × (setting_of client setting ≤ setting_most setting)
 
+-- each option is within its limits
+abbrev pub HasLawfulSettings : JobClient → Type 0
+HasLawfulSettings client = (setting : Setting) → IsLawfulSetting client setting
+
 pub record IsLawfulClient (client : JobClient) : Type 0 where
   pub named : IsIdent client.name
-  pub settings : (setting : Setting) → IsLawfulSetting client setting
+  pub settings : HasLawfulSettings client
   pub lawful_txns : AllByRecursion IsLawfulTxn client.txns
 
 -- an entry of `turns`, which names one of the clients

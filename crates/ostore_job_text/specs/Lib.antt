@@ -10,5 +10,6 @@ pub mod LawfulJob
 pub mod FaultsOf
 pub mod JobSpelling
 pub mod WithinLimits
+pub mod RunnableJobs
 -- What only ties private code.
 pub mod inside
