@@ -1,6 +1,6 @@
 -- A client of a fresh server, and transactions without commands.
 use Rattle.std.proofs.Common.{◌≡◌, ◌<◌, ◌≤◌, ◌+◌, ℕ, true, false, List, [], ◌∷◌, length, Option, Some, None, refl, sym, ap, subst, ◌∙◌, arith}
-use Rattle.std.specs.Prelude.{All}
+use Rattle.std.specs.Prelude.{All, Result, Ok, Err, OnOk}
 use Rattle.std.proofs.lemmas.Bool.{false≢true}
 use Rattle.std.proofs.lemmas.List.Elements.{All-nil}
 use Rattle.ostore_base.specs.declared.page.PageImage.{PageImage}
@@ -48,6 +48,11 @@ fresh_named {P} {schema} {now} entry client ordinal served is = (
     kind = refl;
   },
 )
+
+-- what holds of an Ok
+pub ok_then : {T F : Type 0} {P Q : Type 0} (r : Result T F) → (P → Q) → OnOk r P → OnOk r Q
+ok_then (Ok x) f p = f p
+ok_then (Err e) f p = tt
 
 -- ---- what makes nothing fits
 

@@ -58,6 +58,7 @@ fn visit<M: Mapper, S: PageService<GraphKind>>(
     ensures idle { IsIdle client.new }
     ensures same { SameRecords (S.tells service.old) (S.tells service.new) }
     ensures served { StillServes (S.serves service.old) (S.serves service.new) }
+    ensures same_client { SameClient client.old client.new }
 {
     if client.begin(service, false).is_err() {
         return Err(AttemptFault::OutOfMemory);
