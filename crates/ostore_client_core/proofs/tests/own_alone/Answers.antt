@@ -1,4 +1,4 @@
-use Rattle.std.proofs.Common.{ap, ◌∙◌}
+use Rattle.std.proofs.Common.{◌≡◌, ℕ, false, ap, ◌∙◌}
 use Rattle.ostore_client_cache.specs.Entries.{is_in_use}
 use Rattle.ostore_client_core.specs.Clients.{ClientView, entry_of}
 use Rattle.ostore_client_core.proofs.RecordLaws.{records_then}
@@ -9,7 +9,7 @@ use Rattle.ostore_client_core.proofs.tests.own_alone.Goals as goal
 
 pub returns-clause-nothing : goal.returns-clause-nothing
 returns-clause-nothing g c =
-    let idle = λ page. ap (λ (v : ClientView). is_in_use (entry_of v page)) c.begin.ensures.client ∙ c.requires.idle page in
+    let idle : (page : ℕ) → is_in_use (entry_of c.begin.new.self page) ≡ false = λ page. ap (λ (v : ClientView). is_in_use (entry_of v page)) c.begin.ensures.client ∙ c.requires.idle page in
     ok_then c.own.result
     (λ n. narrows_nothing _ _ _ _ _ _ n (narrows_nothing _ _ _ _ _ _ c.in-Ok.ensures.narrows (λ base list may. may.made ∙ nothing_made c.begin.new.self base idle)))
     c.own.ensures.narrows
