@@ -15,6 +15,7 @@ pub mod TakeLaws
 pub mod NewLaws
 pub mod OwnLaws
 pub mod BeginLaws
+pub mod StayLaws
 pub mod CommitLaws
 pub mod FrameLaws
 pub mod TestLaws

@@ -1,11 +1,16 @@
 -- A client of a fresh server, and transactions without commands.
-use Rattle.std.proofs.Common.{◌≡◌, ◌<◌, ◌≤◌, ◌+◌, ℕ, false, List, [], ◌∷◌, length, Option, Some, None, refl, sym, ap, subst, ◌∙◌, arith}
-use Rattle.std.specs.Prelude.{All}
+use Rattle.std.proofs.Common.{◌≡◌, ◌<◌, ◌≤◌, ◌+◌, ℕ, true, false, List, [], ◌∷◌, length, Option, Some, None, refl, sym, ap, subst, ◌∙◌, arith}
+use Rattle.std.specs.Prelude.{All, Result, Ok, Err, OnOk}
 use Rattle.std.proofs.lemmas.Bool.{false≢true}
 use Rattle.std.proofs.lemmas.List.Elements.{All-nil}
 use Rattle.ostore_base.specs.declared.page.PageImage.{PageImage}
 use Rattle.ostore_schema_layout.specs.declared.schema.Schema.{Schema}
-use Rattle.ostore_page_service.specs.Told.{Side, Told}
+use Rattle.std.specs.Borrow.{GName}
+use Rattle.ostore_base.specs.Limits.{most_clients}
+use Rattle.ostore_page_service.specs.declared.kind.Kind as kind
+use Rattle.ostore_page_service.specs.declared.server.SeqServer.{SeqServer}
+use Rattle.ostore_page_service.specs.Servers.{opened_of, side_of, told_of}
+use Rattle.ostore_page_service.specs.Told.{Side, Told, SameService, Undisturbed}
 use Rattle.ostore_page_service.specs.Holding.{IsEmpty}
 use Rattle.ostore_graph_model.specs.declared.commands.Script.{Script}
 use Rattle.ostore_graph_model.specs.declared.history.Entry.{Entry}
@@ -21,8 +26,9 @@ use Rattle.ostore_client_cache.specs.Entries.{is_in_use, is_owned, is_owner, is_
 use Rattle.ostore_client_core.specs.Kinds.{HasReplies, Follows}
 use Rattle.ostore_client_core.specs.Clients.{ClientView, entry_of, IsAbsent, IsIdle}
 use Rattle.ostore_client_core.specs.Commits.{FitsClient}
-use Rattle.ostore_client_core.specs.inside.Nothing.{NamesNothing, nothing}
+use Rattle.ostore_client_core.specs.inside.Nothing.{MakesNothing, NamesNothing, nothing}
 use Rattle.ostore_client_core.proofs.SeenLaws.{nothing_made}
+use Rattle.ostore_client_core.proofs.StayLaws.{Stays}
 
 pub nothing_held : {side : Side Entry} → IsEmpty side → (page : ℕ) → IsAbsent side page
 nothing_held empty page = record { held = empty.held page; owned = empty.owned page; kept = empty.kept page }
@@ -48,6 +54,11 @@ fresh_named {P} {schema} {now} entry client ordinal served is = (
     kind = refl;
   },
 )
+
+-- what holds of an Ok
+pub ok_then : {T F : Type 0} {P Q : Type 0} (r : Result T F) → (P → Q) → OnOk r P → OnOk r Q
+ok_then (Ok x) f p = f p
+ok_then (Err e) f p = tt
 
 -- ---- what makes nothing fits
 
@@ -116,3 +127,37 @@ nothing_fits serves told client script entry served schema mine first none names
   where
     valid_of : (base : List PageImage) → IsValid client.schema base → IsValid script.schema base
     valid_of base valid = subst (λ (s : Schema). IsValid s base) (sym schema) valid
+
+-- and so does what owns pages and has written nothing
+pub owned_fits : (serves : Script → Type 0) (told : Told Entry) (client : ClientView) (script : Script) (entry : Entry) → serves script → script.schema ≡ client.schema → entry.client.0 ≡ told.client → told.mine.records ≡ [] → entry.replies ≡ [] → entry.update ≡ true → NamesNothing script entry
+    → MakesNothing serves told client → FitsClient serves told client entry
+owned_fits serves told client script entry served schema mine first none updates names made = record {
+  script = script;
+  served = served;
+  schema = schema;
+  fits = record {
+    mine = mine;
+    named = (nothing entry, names);
+    rises = subst (λ (l : List (Entry × ℕ)). All (λ (earlier : Entry × ℕ). earlier.0.ordinal < entry.ordinal) l) (sym first) (All-nil (λ (earlier : Entry × ℕ). earlier.0.ordinal < entry.ordinal));
+    reads = λ is page. absurd (false≢true (sym is ∙ updates));
+    right = λ base list may. right_nothing script entry base none names (valid_in base may.began.valid);
+    next = λ is base list may. subst (λ (l : List PageImage). Follows script entry base l) (sym (made base list may)) (follows_nothing script entry base none names (valid_in base may.began.valid));
+  };
+}
+  where
+    valid_in : (base : List PageImage) → IsValid client.schema base → IsValid script.schema base
+    valid_in base valid = subst (λ (s : Schema). IsValid s base) (sym schema) valid
+
+-- ---- two clients of one server
+
+-- what is told of the server to one client, before and after a call for another one
+pub stays_at : {K D S : Type 0} {g : kind.Ghosts K Entry S} (before was now after : SeqServer K D Entry S g) → was ≡ before → after ≡ now → {a b x y : GName} {f : D → ℕ} {n m k j : ℕ} (c d : ℕ) → n ≡ c → m ≡ c → k ≡ d → c < most_clients → (c ≡ d → ⊥)
+    → SameService (told_of x f k was) (told_of y f j now) → Stays (told_of a f n before) (told_of b f m after)
+stays_at before was now after first last {n = n} {m = m} c d n_is m_is k_is low apart same = record {
+  client = m_is ∙ sym n_is;
+  opened = ap (λ s. opened_of s) last ∙ same.opened ∙ ap (λ s. opened_of s) first;
+  mine = subst (λ (i : ℕ). Undisturbed (side_of before i) (side_of after m)) (sym n_is)
+      (subst (λ (i : ℕ). Undisturbed (side_of before c) (side_of after i)) (sym m_is)
+      (subst (λ s. Undisturbed (side_of s c) (side_of after c)) first
+      (subst (λ s. Undisturbed (side_of was c) (side_of s c)) (sym last) (same.others c low (λ e. apart (e ∙ k_is))))));
+}
