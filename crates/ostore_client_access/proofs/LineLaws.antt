@@ -1,5 +1,5 @@
 -- The lines of a transaction, executed in an attempt one by one.
-use Rattle.std.proofs.Common.{◌≡◌, ◌≤◌, ℕ, false, List, [], length, refl, sym, ap, subst, ◌∙◌}
+use Rattle.std.proofs.Common.{◌≡◌, ◌≤◌, ℕ, true, false, List, [], length, refl, sym, ap, subst, ◌∙◌}
 use Rattle.std.specs.Prelude.{None, Result, Ok, Err, OnOk}
 use Rattle.std.specs.Option.{option_map}
 use Rattle.ostore_base.specs.declared.page.PageImage.{PageImage}
@@ -82,6 +82,9 @@ module _ (a b : Script → Type 0) (t u : Told Entry) (x y : ClientView) (schema
       let early = one.from base list may in
       subst (λ (s : Schema). LacksLine s txn (replies_of progress) lack list) (sym (kept ∙ same))
       (subst (LacksLine schema txn (replies_of progress) lack) (sym early.2.0) early.2.1)
+
+  pub line_updates : (lack : NoSpace) → Becomes before after (Sees (LacksLine schema txn (replies_of progress) lack)) → txn.update ≡ true
+  line_updates lack one = (let line = (one.from one.some.0 one.some.1 one.some.2).2.1 in line.2.may)
 
 pub lines_made : (a : Script → Type 0) (t : Told Entry) (x : ClientView) (txn : Txn) (progress : Progress) → HasRunLines a t x txn progress → length txn.commands ≤ length (replies_of progress) → HasMade a t x txn (replies_of progress)
 lines_made a t x txn progress lines end = record {

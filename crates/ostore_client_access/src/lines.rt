@@ -54,6 +54,7 @@ pub(crate) fn execute_line_on<M: Mapper, S: PageService<GraphKind>>(
         (S.tells access.new.service.now) access.old.client.now access.new.client.now)) }
     ensures space { IfErr result (IfNoSpace (λ no. LacksOnEach (S.serves access.new.service.now)
         (S.tells access.new.service.now) access.new.client.now txn.now)) }
+    ensures updates { IfErr result (IfNoSpace (λ no. txn.now.update ≡ true)) }
     ensures place { IfErr result (IfNoSpace (FindsNoPlace (S.serves access.new.service.now)
         (S.tells access.new.service.now) access.new.client.now txn.now
         (replies_of progress.old))) }
@@ -65,9 +66,9 @@ pub(crate) fn execute_line_on<M: Mapper, S: PageService<GraphKind>>(
 }
 
 /// Executes the next line of a transaction in an attempt whose earlier lines have run, and adds its reply to the
-/// progress. The schema is the client's, and the commands are of those that run. NoSpace comes where the line's object
-/// finds no place, and only where fewer pages were free than the transaction may take. Where it stops, the replies stay,
-/// and the attempt is to be aborted.
+/// progress. The schema is the client's, and the commands are of those that run. NoSpace comes where the object of an
+/// update's line finds no place, and only where fewer pages were free than the transaction may take. Where it stops,
+/// the replies stay, and the attempt is to be aborted.
 pub fn execute_line<M: Mapper, S: PageService<GraphKind>>(
     client: &mut Client<'_, M>,
     service: &mut S,
@@ -97,6 +98,7 @@ pub fn execute_line<M: Mapper, S: PageService<GraphKind>>(
         (S.tells service.old) (S.tells service.new) client.old client.new)) }
     ensures space { IfErr result (IfNoSpace (λ no. LacksOnEach (S.serves service.new)
         (S.tells service.new) client.new txn.now)) }
+    ensures updates { IfErr result (IfNoSpace (λ no. txn.now.update ≡ true)) }
     ensures place { IfErr result (IfNoSpace (FindsNoPlace (S.serves service.new)
         (S.tells service.new) client.new txn.now (replies_of progress.old))) }
     ensures client { SameClient client.old client.new }
