@@ -1,5 +1,5 @@
 -- Where an attempt at a transaction is: before its first line, or behind one of its lines.
-use Rattle.std.specs.Prelude.{◌≡◌, ◌+◌, ◌<◌, ℕ, length, Option, Some, None, All}
+use Rattle.std.specs.Prelude.{◌≡◌, ◌+◌, ◌<◌, ℕ, [], length, Option, Some, None, All}
 use Rattle.ostore_page_service.specs.Told.{Told}
 use Rattle.ostore_graph_model.specs.declared.commands.Txn.{Txn}
 use Rattle.ostore_graph_model.specs.declared.commands.Script.{Script}
@@ -38,10 +38,12 @@ line_at attempt = line_in attempt.progress
 
 -- ---- how far it has come
 
--- An attempt has begun, and those of its lines that have a reply have run. There is room for its entry.
+-- An attempt has begun, and those of its lines that have a reply have run; before the first command no page is in use.
+-- There is room for its entry.
 pub record IsAlong (serves : Script → Type 0) (told : Told Entry) (client : ClientView) (txn : Txn) (progress : Progress)
     : Type 0 where
   pub lines : HasRunLines serves told client txn progress
+  pub first : replies_of progress ≡ [] → IsIdle client
   pub room : 0 < told.mine.room
 
 abbrev pub IsWith : (Script → Type 0) → Told Entry → ClientView → Txn → Option Progress → Type 0
