@@ -69,12 +69,12 @@ module _ (a b : Script → Type 0) (t u : Told Entry) (x y : ClientView) (schema
   line_adds (Ok value) one = (let line = (one.from one.some.0 one.some.1 one.some.2).2 in (line.reply, line.last))
   line_adds (Err fault) one = one
 
-  pub line_lacks : (no : NoSpace) → Becomes before after (Sees (LacksLine schema txn (replies_of progress) no)) → LacksOnEach b u y txn
-  line_lacks no one = record {
+  pub line_lacks : (lack : NoSpace) → Becomes before after (Sees (LacksLine schema txn (replies_of progress) lack)) → LacksOnEach b u y txn
+  line_lacks lack one = record {
     runs = one.some.2.runs;
     lacks = λ base began.
         let early = one.from base (seen_list y base) (record { runs = one.some.2.runs; began = began; made = refl }) in
-        lacks_growth schema txn (replies_of progress) (leads_by before progress) base early.0 no (ran_before base early.0 early.1) early.2.1;
+        lacks_growth schema txn (replies_of progress) (leads_by before progress) base early.0 lack (ran_before base early.0 early.1) early.2.1;
   }
 
 pub lines_made : (a : Script → Type 0) (t : Told Entry) (x : ClientView) (txn : Txn) (progress : Progress) → HasRunLines a t x txn progress → length txn.commands ≤ length (replies_of progress) → HasMade a t x txn (replies_of progress)

@@ -18,7 +18,7 @@ pub returns-clause-client : goal.returns-clause-client
 returns-clause-client g c = client_kept c.args.access.now.updates c.run_line.new.pages.updates (g.S.PageClaims.serves c.args.access.now.service.now) (g.S.PageClaims.serves c.run_line.new.pages.service.now) (g.S.PageClaims.tells c.args.access.now.service.now) (g.S.PageClaims.tells c.run_line.new.pages.service.now) c.args.access.now.client.now c.run_line.new.pages.client.now c.run_line.result c.run_line.ensures.passes c.run_line.ensures.stops
 
 pub returns-clause-own : goal.returns-clause-own
-returns-clause-own g c = own_line c.args.access.now.updates c.run_line.new.pages.updates (g.S.PageClaims.serves c.args.access.now.service.now) (g.S.PageClaims.serves c.run_line.new.pages.service.now) (g.S.PageClaims.tells c.args.access.now.service.now) (g.S.PageClaims.tells c.run_line.new.pages.service.now) c.args.access.now.client.now c.run_line.new.pages.client.now c.run_line.result c.run_line.ensures.lists c.run_line.ensures.stops c.run_line.ensures.space c.run_line.ensures.memory
+returns-clause-own g c = own_line _ _ _ c.args.access.now.updates c.run_line.new.pages.updates (g.S.PageClaims.serves c.args.access.now.service.now) (g.S.PageClaims.serves c.run_line.new.pages.service.now) (g.S.PageClaims.tells c.args.access.now.service.now) (g.S.PageClaims.tells c.run_line.new.pages.service.now) c.args.access.now.client.now c.run_line.new.pages.client.now c.run_line.result c.run_line.ensures.lists c.run_line.ensures.stops c.run_line.ensures.space c.run_line.ensures.memory
 
 pub returns-clause-lines : goal.returns-clause-lines
 returns-clause-lines g c = line_ok (g.S.PageClaims.serves c.args.access.now.service.now) (g.S.PageClaims.serves c.run_line.new.pages.service.now) (g.S.PageClaims.tells c.args.access.now.service.now) (g.S.PageClaims.tells c.run_line.new.pages.service.now) c.args.access.now.client.now c.run_line.new.pages.client.now c.args.schema.now c.args.txn.now c.args.progress.now c.run_line.new.progress c.requires.schema c.requires.lines c.run_line.result (client_kept c.args.access.now.updates c.run_line.new.pages.updates (g.S.PageClaims.serves c.args.access.now.service.now) (g.S.PageClaims.serves c.run_line.new.pages.service.now) (g.S.PageClaims.tells c.args.access.now.service.now) (g.S.PageClaims.tells c.run_line.new.pages.service.now) c.args.access.now.client.now c.run_line.new.pages.client.now c.run_line.result c.run_line.ensures.passes c.run_line.ensures.stops).schema
@@ -29,4 +29,4 @@ pub returns-clause-more : goal.returns-clause-more
 returns-clause-more g c = line_adds (g.S.PageClaims.serves c.args.access.now.service.now) (g.S.PageClaims.serves c.run_line.new.pages.service.now) (g.S.PageClaims.tells c.args.access.now.service.now) (g.S.PageClaims.tells c.run_line.new.pages.service.now) c.args.access.now.client.now c.run_line.new.pages.client.now c.args.schema.now c.args.txn.now c.args.progress.now c.run_line.new.progress c.requires.schema c.requires.lines c.run_line.result c.run_line.ensures.lists
 
 pub returns-clause-space : goal.returns-clause-space
-returns-clause-space g c = space_lacks (g.S.PageClaims.serves c.args.access.now.service.now) (g.S.PageClaims.serves c.run_line.new.pages.service.now) (g.S.PageClaims.tells c.args.access.now.service.now) (g.S.PageClaims.tells c.run_line.new.pages.service.now) c.args.access.now.client.now c.run_line.new.pages.client.now c.args.txn.now c.run_line.result (λ no. line_lacks (g.S.PageClaims.serves c.args.access.now.service.now) (g.S.PageClaims.serves c.run_line.new.pages.service.now) (g.S.PageClaims.tells c.args.access.now.service.now) (g.S.PageClaims.tells c.run_line.new.pages.service.now) c.args.access.now.client.now c.run_line.new.pages.client.now c.args.schema.now c.args.txn.now c.args.progress.now c.run_line.new.progress c.requires.schema c.requires.lines no) c.run_line.ensures.space
+returns-clause-space g c = space_lacks _ (g.S.PageClaims.serves c.args.access.now.service.now) (g.S.PageClaims.serves c.run_line.new.pages.service.now) (g.S.PageClaims.tells c.args.access.now.service.now) (g.S.PageClaims.tells c.run_line.new.pages.service.now) c.args.access.now.client.now c.run_line.new.pages.client.now c.args.txn.now c.run_line.result (λ no. line_lacks (g.S.PageClaims.serves c.args.access.now.service.now) (g.S.PageClaims.serves c.run_line.new.pages.service.now) (g.S.PageClaims.tells c.args.access.now.service.now) (g.S.PageClaims.tells c.run_line.new.pages.service.now) c.args.access.now.client.now c.run_line.new.pages.client.now c.args.schema.now c.args.txn.now c.args.progress.now c.run_line.new.progress c.requires.schema c.requires.lines no) c.run_line.ensures.space
