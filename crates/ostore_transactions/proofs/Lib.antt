@@ -1,2 +1,3 @@
 pub mod FailLaws
 pub mod LineLaws
+pub mod CommitLaws
