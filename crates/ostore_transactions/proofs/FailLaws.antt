@@ -65,7 +65,7 @@ fault_line t u y txn line (Commit fault) at why = absurd why
 fault_line t u y txn line OutOfMemory at why = tt
 
 -- the history that is reached where a service tells the one, where it tells the same of it
-reached_as : (script : Script) (t u : Told Entry) (number : ℕ) (list : List PageImage) → SameRecords t u
+pub reached_as : (script : Script) (t u : Told Entry) (number : ℕ) (list : List PageImage) → SameRecords t u
     → IsReached graph_meaning script u.first u.opened u.client u.mine.records number list
     → IsReached graph_meaning script t.first t.opened t.client t.mine.records number list
 reached_as script t u number list same reached =
