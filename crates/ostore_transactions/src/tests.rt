@@ -83,7 +83,7 @@ struct Seen {
 }
 
 /// What is seen of an end.
-fn seen(ended: Ended) -> Option<Seen> {
+fn seen_of(ended: Ended) -> Option<Seen> {
     let (number, replies) = match ended {
         Ended::Committed { number, replies } => (number, replies),
         Ended::Aborted => return None,
@@ -137,7 +137,7 @@ fn abort_and_commit<M: Mapper, S: PageService<GraphKind>>(
         Ended::Aborted => {}
     }
     match run_attempt(alloc, client, service, turn, schema, second, 2) {
-        Ok(ended) => seen(ended),
+        Ok(ended) => seen_of(ended),
         Err(_) => None,
     }
 }
@@ -162,7 +162,7 @@ fn a_new_object_is_set_read_and_committed(rt: HostRuntime) -> Result<(), Fail> {
         segment: 1,
         serial: 1,
     };
-    assert_eq!(rt; seen(ended), Some(Seen { name, value: 7, number: 1 }));
+    assert_eq!(rt; seen_of(ended), Some(Seen { name, value: 7, number: 1 }));
     Ok(())
 }
 
