@@ -4,8 +4,10 @@ use Rattle.std.specs.Option.{option_map}
 use Rattle.ostore_base.specs.Faults.{Rose}
 use Rattle.ostore_base.specs.declared.page.PageImage.{PageImage}
 use Rattle.ostore_schema_layout.specs.declared.schema.Schema.{Schema}
+use Rattle.ostore_segments.specs.declared.placement.NoSpace.{NoSpace as Lack}
 use Rattle.ostore_page_service.specs.History.{IsReached}
 use Rattle.ostore_page_service.specs.Told.{Told, SameRecords, StillServes, NoBusy, HoldsReached}
+use Rattle.ostore_graph_model.specs.declared.values.Reply.{Reply}
 use Rattle.ostore_graph_model.specs.declared.commands.Txn.{Txn}
 use Rattle.ostore_graph_model.specs.declared.commands.Script.{Script}
 use Rattle.ostore_graph_model.specs.declared.history.Entry.{Entry}
@@ -14,17 +16,18 @@ use Rattle.ostore_client_core.specs.declared.fault.AttemptFault.{AttemptFault}
 use Rattle.ostore_client_core.specs.declared.fault.AttemptFault.TheVariants.{Busy, NoSpace, CacheFull, SpaceFull, Commit, OutOfMemory}
 use Rattle.ostore_client_core.specs.Kinds.{graph_meaning}
 use Rattle.ostore_client_core.specs.Clients.{ClientView, IsIdle}
-use Rattle.ostore_client_core.specs.Attempts.{IsBase}
+use Rattle.ostore_client_core.specs.Attempts.{seen_list, IsBase, Attempts}
 use Rattle.ostore_client_core.specs.Calls.{SameClient}
 use Rattle.ostore_client_core.proofs.RecordLaws.{records_then, calm_then}
 use Rattle.ostore_object_ops.specs.declared.stop.Stop.{Stop}
 use Rattle.ostore_object_ops.specs.declared.stop.Stop.TheVariants as stops
+use Rattle.ostore_object_ops.specs.Lines.{LacksLine}
 use Rattle.ostore_object_ops.specs.Stops.{Stopped, IfNoSpace}
 use Rattle.ostore_client_access.specs.Accesses.{Causes, Passes, Fails}
-use Rattle.ostore_client_access.specs.Attempts.{LacksOnEach}
+use Rattle.ostore_client_access.specs.Attempts.{FindsNoPlace, LacksOnEach}
 use Rattle.ostore_transactions.specs.declared.attempt.Attempt.{Attempt}
 use Rattle.ostore_transactions.specs.Attempts.{last_line, IsOver}
-use Rattle.ostore_transactions.specs.Causes.{IsCommandLine, ComesAt, IsCause, LacksPages, NoFaults, SameHistory}
+use Rattle.ostore_transactions.specs.Causes.{IsCommandLine, ComesAt, IsCause, LacksPages, FindsNoPlace as LacksPlace, NoFaults, SameHistory}
 use Rattle.ostore_transactions.specs.Lines.{HasFailed}
 use Rattle.ostore_transactions.specs.inside.Stopping.{fault_by}
 
@@ -65,7 +68,7 @@ fault_line t u y txn line (Commit fault) at why = absurd why
 fault_line t u y txn line OutOfMemory at why = tt
 
 -- the history that is reached where a service tells the one, where it tells the same of it
-reached_as : (script : Script) (t u : Told Entry) (number : ℕ) (list : List PageImage) → SameRecords t u
+pub reached_as : (script : Script) (t u : Told Entry) (number : ℕ) (list : List PageImage) → SameRecords t u
     → IsReached graph_meaning script u.first u.opened u.client u.mine.records number list
     → IsReached graph_meaning script t.first t.opened t.client t.mine.records number list
 reached_as script t u number list same reached =
@@ -92,15 +95,23 @@ lacks_pages b t u x y txn script same schema reached lacks served is =
       });
     }
 
+no_place : (b : Script → Type 0) (u : Told Entry) (x y : ClientView) (txn : Txn) (replies : List Reply) (lack : Lack)
+    → y.schema ≡ x.schema → Attempts b u y → FindsNoPlace b u y txn replies lack → LacksPlace x.schema txn lack
+no_place b u x y txn replies lack schema runs place =
+    let base : List PageImage = runs.some.0 in
+    let line = place base (seen_list y base) (record { runs = runs; began = runs.some.1; made = refl }) in
+    (replies, seen_list y base, subst (λ (s : Schema). LacksLine s txn replies lack (seen_list y base)) schema line)
+
 over : (z : ClientView) (attempt : Attempt) → attempt.progress ≡ None → IsIdle z → IsOver z attempt
 over z attempt none idle = record { idle = idle; first = none }
 
-pub line_failed : (a b c : Script → Type 0) (t u v : Told Entry) (x y z : ClientView) (txn : Txn) (line : ℕ) (attempt : Attempt) (stop : Stop AttemptFault)
+pub line_failed : (a b c : Script → Type 0) (t u v : Told Entry) (x y z : ClientView) (txn : Txn) (replies : List Reply) (line : ℕ) (attempt : Attempt) (stop : Stop AttemptFault)
     → attempt.progress ≡ None → IsCommandLine txn line
     → Stopped stop (λ fault. Fails txn.update fault a b t u x y) (Passes txn.update a b t u x y) → IfNoSpace (λ lack. LacksOnEach b u y txn) stop
+    → IfNoSpace (λ lack. txn.update ≡ true) stop → IfNoSpace (FindsNoPlace b u y txn replies) stop
     → HoldsReached graph_meaning b u → IsIdle z → SameRecords u v → StillServes b c → NoBusy u v
     → HasFailed a c t v x z txn line attempt (fault_by stop)
-line_failed a b c t u v x y z txn line attempt (stops.Fault fault) none at stopped space reached idle same served calm =
+line_failed a b c t u v x y z txn replies line attempt (stops.Fault fault) none at stopped space updates place reached idle same served calm =
     let both = records_then t u v stopped.same same in
     record {
       cause = fault_cause a t u v x y txn fault both calm stopped.client stopped.cause;
@@ -109,20 +120,22 @@ line_failed a b c t u v x y z txn line attempt (stops.Fault fault) none at stopp
       served = λ script serving. served script (stopped.served script serving);
       over = over z attempt none idle;
     }
-line_failed a b c t u v x y z txn line attempt (stops.NoSpace lack) none at stopped space reached idle same served calm =
+line_failed a b c t u v x y z txn replies line attempt (stops.NoSpace lack) none at stopped space updates place reached idle same served calm =
     let both = records_then t u v stopped.same same in
     record {
       cause = (
+        updates,
         λ script serving is. lacks_pages b t u x y txn script stopped.same stopped.client.schema reached space (stopped.served script serving) is,
         calm_then t u v stopped.calm calm,
         no_faults t v both,
+        no_place b u x y txn replies lack stopped.client.schema space.runs place,
       );
       at = at;
       same = same_history t v both;
       served = λ script serving. served script (stopped.served script serving);
       over = over z attempt none idle;
     }
-line_failed a b c t u v x y z txn line attempt stops.OutOfMemory none at stopped space reached idle same served calm =
+line_failed a b c t u v x y z txn replies line attempt stops.OutOfMemory none at stopped space updates place reached idle same served calm =
     let both = records_then t u v stopped.same same in
     record {
       cause = (calm_then t u v stopped.calm calm, no_faults t v both);

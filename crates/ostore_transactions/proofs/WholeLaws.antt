@@ -4,6 +4,7 @@ use Rattle.std.specs.Prelude.{IsSome, All}
 use Rattle.std.specs.Option.{option_map}
 use Rattle.ostore_base.specs.Faults.{Rose}
 use Rattle.ostore_base.specs.declared.page.PageImage.{PageImage}
+use Rattle.ostore_schema_layout.specs.declared.schema.Schema.{Schema}
 use Rattle.ostore_page_service.specs.Told.{Told, SameRecords, StillServes, NoBusy, Numbers, DiskCounts, MayCome, faults_after, OwnedByAnother, UsedByAnother}
 use Rattle.ostore_graph_model.specs.declared.values.Reply.{Reply}
 use Rattle.ostore_graph_model.specs.declared.commands.Txn.{Txn}
@@ -19,7 +20,7 @@ use Rattle.ostore_client_access.specs.Accesses.{MeetsAnother}
 use Rattle.ostore_client_access.specs.inside.Passing.{client_refl, client_then}
 use Rattle.ostore_transactions.specs.declared.attempt.Attempt.{Attempt}
 use Rattle.ostore_transactions.specs.Attempts.{last_line, line_at, line_in, HasTxn, IsAt, IsWith}
-use Rattle.ostore_transactions.specs.Causes.{IsCause, LacksPages, NoFaults, SameHistory}
+use Rattle.ostore_transactions.specs.Causes.{IsCause, LacksPages, FindsNoPlace, NoFaults, SameHistory}
 use Rattle.ostore_transactions.specs.Lines.{entry_by, IsGoing, IsCommitted, IsAborted, HasFailed}
 use Rattle.ostore_transactions.specs.Ends.{HasCommitted, HasAborted, HasGivenUp}
 use Rattle.ostore_transactions.specs.inside.Going.{GoesOn, HasGone}
@@ -138,9 +139,11 @@ cause_then a b t u v x y txn (Busy busy) goes why = (
   faults_then t u v goes.same why.1,
 )
 cause_then a b t u v x y txn (NoSpace segment need) goes why = (
-  λ script serving schema. lacks_then script t u txn goes.same (why.0 script (goes.served script serving) (schema ∙ sym goes.client.schema)),
-  calm_then t u v goes.calm why.1,
-  faults_then t u v goes.same why.2,
+  why.0,
+  λ script serving schema. lacks_then script t u txn goes.same (why.1 script (goes.served script serving) (schema ∙ sym goes.client.schema)),
+  calm_then t u v goes.calm why.2,
+  faults_then t u v goes.same why.3,
+  subst (λ (s : Schema). FindsNoPlace s txn (record { segment = segment; need = need })) goes.client.schema why.4,
 )
 cause_then a b t u v x y txn (CacheFull used capacity) goes why =
     (why.0, why.1 ∙ goes.client.most, below_then t u capacity goes.same why.2, calm_then t u v goes.calm why.3, faults_then t u v goes.same why.4)
