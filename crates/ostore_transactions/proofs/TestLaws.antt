@@ -1,5 +1,5 @@
 -- A script whose first client has two transactions.
-use Rattle.std.proofs.Common.{◌≡◌, ℕ, List, [], ◌∷◌, Some, refl, sym}
+use Rattle.std.proofs.Common.{◌≡◌, [], ◌∷◌, Some, refl, sym}
 use Rattle.ostore_schema_layout.specs.declared.schema.Schema.{Schema}
 use Rattle.ostore_graph_model.specs.declared.commands.Script.{Script}
 use Rattle.ostore_graph_model.specs.declared.commands.Txn.{Txn}

@@ -186,7 +186,14 @@ fn a_new_object_is_set_read_and_committed(rt: HostRuntime) -> Result<(), Fail> {
         segment: 1,
         serial: 1,
     };
-    assert_eq!(rt; done, Some(Seen { name, value: 7, number: 1 }));
+    assert_eq!(rt;
+        done,
+        Some(Seen {
+            name,
+            value: 7,
+            number: 1
+        })
+    );
     Ok(())
 }
 
@@ -219,6 +226,13 @@ fn an_aborted_transaction_leaves_no_object(rt: HostRuntime) -> Result<(), Fail> 
         segment: 1,
         serial: 1,
     };
-    assert_eq!(rt; done, Some(Seen { name, value: 7, number: 1 }));
+    assert_eq!(rt;
+        done,
+        Some(Seen {
+            name,
+            value: 7,
+            number: 1
+        })
+    );
     Ok(())
 }
