@@ -16,3 +16,4 @@ pub mod NamedFaults
 pub mod RisingLines
 pub mod FaultsTold
 pub mod TextsWithin
+pub mod SpelledRuns
