@@ -2,12 +2,9 @@
 use Rattle.std.specs.Prelude.{◌≡◌, ◌<◌, ◌-◌, ◌^◌, ℕ, false, min, sum, List, [], length, map, Some, None}
 use Rattle.std.specs.List.{AllByRecursion}
 use Rattle.ostore_base.specs.declared.page.PageImage.{PageImage}
-use Rattle.ostore_page_tags.specs.Allocated.{HasFree}
 use Rattle.ostore_schema_layout.specs.declared.schema.Schema.{Schema}
 use Rattle.ostore_graph_model.specs.declared.commands.Script.{Script}
-use Rattle.ostore_graph_model.specs.Graph.{Graph}
-use Rattle.ostore_graph_model.specs.Growth.{script_growth}
-use Rattle.ostore_graph_model.specs.StandsFor.{StandsFor}
+use Rattle.ostore_graph_model.specs.History.{last_number}
 use Rattle.ostore_object_ops.specs.Suits.{IsBuilt}
 use Rattle.ostore_job_text.specs.declared.job.Job.{Job}
 use Rattle.ostore_run_report.specs.declared.results.Tail.{Tail}
@@ -16,6 +13,7 @@ use Rattle.ostore_turns.specs.Places.{Moment, first_place}
 use Rattle.ostore_turns.specs.Runs.{IsRunBy}
 use Rattle.ostore_turns.specs.Bounds.{Bounds, AreBounded}
 use Rattle.ostore_graph_history.specs.Histories.{IsHistoryTo}
+use Rattle.ostore_graph_history.specs.Space.{LacksPages}
 use Rattle.ostore_client_turns.specs.declared.run.Run.{Run}
 
 -- ---- what is run
@@ -34,14 +32,6 @@ abbrev pub first_moment : ℕ → Moment
 first_moment number = record { places = λ client. first_place; records = λ client. []; commits = number }
 
 -- ---- when something runs out
-
--- of the opened list fewer pages are free than the script may take
-pub record LacksPages (script : Script) (opened : List PageImage) : Type 0 where
-  pub graph : Graph
-  pub stands : StandsFor script.schema opened graph
-  pub free : List ℕ
-  pub has_free : HasFree opened free
-  pub lacks : length free < script_growth graph script
 
 -- No call of a disk fails: the journal only counts.
 abbrev pub bounds_of : Script → List PageImage → Bounds
@@ -62,11 +52,13 @@ pub record IsTailOf (job : Job) (commits : ℕ) (tail : Tail) : Type 0 where
   pub tail_is : tail ≡ record { disk_fault_after = None; commits = commits; fetches = Some fetches }
 
 -- From the opened list at its number to the last one the clients of a job took the turns of its schedule. What their
--- transactions committed is a legal history, from the graph of the opened list to that of the last one. Where a
--- transaction was given up for want of space, of cache or of frames, the job or the opened list had too few of them.
+-- transactions committed is a legal history, from the graph of the opened list to that of the last one; the number of
+-- the last commit is that of its last update. Where a transaction was given up for want of space, of cache or of
+-- frames, the opened list or the job had too few of them.
 pub record IsRunOf (schema : Schema) (job : Job) (first : ℕ) (opened last : List PageImage) (run : Run) : Type 0 where
   pub after : Moment
   pub turns : IsRunBy job (first_moment first) after (record { results = run.results; disk_failed = false })
   pub history : IsHistoryTo (script_of schema job) first opened (committed_of run.results) last
-  pub bounded : AreBounded job.clients (bounds_of (script_of schema job) opened) run.results
+  pub bounded : AreBounded (bounds_of (script_of schema job) opened) job.clients run.results
+  pub number : after.commits ≡ last_number first (committed_of run.results)
   pub tail : IsTailOf job after.commits run.tail
