@@ -30,12 +30,17 @@ pub record SeatView : Type 0 where
   pub attempt : Attempt
   pub place : Place
 
+-- where a client is
+abbrev pub place_of : Option SeatView → Place
+place_of None = first_place
+place_of (Some seat) = seat.place
+
 -- It has as many pages and frames as its options say; its service is its own; its attempt is at its place, and where it has no
 -- line left, no page is in use. What it has committed comes before its place.
 pub record IsSeated (serves : Script → Type 0) (told : Told Entry) (schema : Schema) (client : JobClient) (seat : SeatView)
     : Type 0 where
   pub own : IsOwn serves told seat.client
-  pub schema : seat.client.schema ≡ schema
+  pub of_schema : seat.client.schema ≡ schema
   pub most : seat.client.most ≡ client.cache
   pub frames : length seat.client.frames.pages ≡ client.frames
   pub line : seat.place.line ≡ line_at seat.attempt
@@ -56,6 +61,17 @@ pub record AreSeated (serves : Script → Type 0) (told : ℕ → Told Entry) (s
       → (seat : SeatView) × (seats number ≡ Some seat) × IsSeated serves (told number) schema client seat
   pub vacant : (number : ℕ) → length clients ≤ number → number < most_clients → IsVacant (told number)
 
+-- at the first line of its script
+pub record IsFreshSeat (serves : Script → Type 0) (told : Told Entry) (schema : Schema) (client : JobClient) (seat : SeatView)
+    : Type 0 where
+  pub seated : IsSeated serves told schema client seat
+  pub first : seat.place ≡ first_place
+
+pub record AreFreshSeats (serves : Script → Type 0) (told : ℕ → Told Entry) (schema : Schema) (clients : List JobClient)
+    (seats : ℕ → Option SeatView) : Type 0 where
+  pub seated : AreSeated serves told schema clients seats
+  pub first : (number : ℕ) → place_of (seats number) ≡ first_place
+
 -- a job that can be executed on pages of the schema
 pub record IsExecutable (schema : Schema) (job : Job) : Type 0 where
   pub few : length job.clients ≤ most_clients
@@ -72,11 +88,6 @@ pub record IsReady (serves : Script → Type 0) (told : ℕ → Told Entry) (sch
 
 -- ---- what a run by turns sees of them
 
--- where a client is
-abbrev pub place_of : Option SeatView → Place
-place_of None = first_place
-place_of (Some seat) = seat.place
-
 abbrev pub recorded : Told Entry → List Committed
 recorded told = map committed_entry told.mine.records
 
@@ -85,7 +96,7 @@ abbrev pub moment_in : (ℕ → Told Entry) → ℕ → (ℕ → Option SeatView
 moment_in told number seats = moment_of (λ client. place_of (seats client)) (λ client. recorded (told client)) number
 
 -- what no turn changes: the reference to the server, what it opened, and what is run on it
-pub record Constants : Type 0 where
+pub record StoreConstants : Type 0 where
   pub behind : GName
   pub first : ℕ
   pub opened : List PageImage
