@@ -9,6 +9,7 @@ pub mod SeenLaws
 pub mod FitLaws
 pub mod OldestLaws
 pub mod SettleLaws
+pub mod RoomLaws
 pub mod BringLaws
 pub mod TakeLaws
 pub mod NewLaws
