@@ -2,12 +2,12 @@
 use Rattle.std.proofs.Common.{◌≡◌, ◌≢◌, ◌<◌, ◌≤◌, ◌+◌, ◌⊎◌, inl, inr, ℕ, Bool, true, false, List, [], ◌∷◌, length, Option, Some, None, refl, sym, ap, subst, ◌∙◌, arith}
 use Rattle.std.specs.Prelude.{IsSome}
 use Rattle.std.specs.List.{slice_get}
-use Rattle.std.proofs.lemmas.Bool.{cases_lt, false≢true}
-use Rattle.std.proofs.lemmas.Option.{none-some}
+use Rattle.std.proofs.lemmas.Bool.{false≢true}
+use Rattle.std.proofs.lemmas.Option.{slice_get_cases}
 use Rattle.ostore_base.specs.Limits.{most_clients}
 use Rattle.ostore_base.specs.declared.page.PageImage.{PageImage}
 use Rattle.ostore_schema_layout.specs.declared.schema.Schema.{Schema}
-use Rattle.ostore_page_service.specs.Told.{Side, Told, OwnedByAnother, UsedByAnother}
+use Rattle.ostore_page_service.specs.Told.{Side, Told}
 use Rattle.ostore_graph_model.specs.declared.commands.Script.{Script}
 use Rattle.ostore_graph_model.specs.declared.commands.Txn.{Txn}
 use Rattle.ostore_graph_model.specs.declared.history.Entry.{Entry}
@@ -26,7 +26,7 @@ use Rattle.ostore_client_access.specs.Accesses.{MeetsAnother}
 use Rattle.ostore_transactions.specs.Attempts.{IsAlong, IsWith, line_in}
 use Rattle.ostore_turns.specs.Places.{Moment, IsIn}
 use Rattle.ostore_turns.specs.LawfulTurns.{IsMet}
-use Rattle.ostore_client_turns.specs.inside.Stores.{AreSeated, IsSeated, IsVacant, SeatView, moment_in, place_of}
+use Rattle.ostore_client_turns.specs.inside.Stores.{AreSeated, AreTold, IsSeated, SeatView, moment_in, place_of}
 
 -- ---- what the service holds, the client has
 
@@ -118,3 +118,55 @@ busy_seat serves told schema clients seats commits number client seat page there
       };
       executed = subst (λ (at : _). HasExecuted seat.client found.0 at.line) (sym place) executed;
     }
+
+-- a client of the job, or a number of none
+found_client : (clients : List JobClient) (number : ℕ) → ((client : JobClient) × (slice_get clients number ≡ Some client)) ⊎ (length clients ≤ number)
+found_client clients number = elim (slice_get_cases clients number).1 [
+  | inl there ↦ inl (there.0, there.2)
+  | inr past ↦ inr past.0
+]
+
+module _ (serves : Script → Type 0) (told : ℕ → Told Entry) (schema : Schema) (clients : List JobClient) (seats : ℕ → Option SeatView)
+    (opened : List PageImage) (commits number : ℕ) (txn : Txn) (page : ℕ) (all : AreTold told opened commits)
+    (seated : AreSeated serves told schema clients seats) where
+  owner_met : (other : ℕ) → other < most_clients → other ≢ number → (told other).mine.owned page ≡ true → IsMet clients (moment_in told commits seats) number txn
+  owner_met other low apart owned = elim (found_client clients other) [
+    | inl found ↦ (let sits = seated.each other found.0 found.1 in
+      let is = owned_in (stored_image sits.0.client page) (told other).mine page (entry_of sits.0.client page) (sits.2.own.tied page) owned in
+      let busy = busy_seat serves told schema clients seats commits other found.0 sits.0 page found.1 sits.1 sits.2 is.0 in
+      record {
+        other = other;
+        another = apart;
+        begun = busy.txn;
+        is_in = busy.is_in;
+        executed = busy.executed.executed;
+        updates = inr (busy.executed.owns page is.1);
+      })
+    | inr none ↦ absurd (false≢true (sym ((seated.vacant other none low).owned page) ∙ owned))
+  ]
+
+  user_met : (other : ℕ) → other < most_clients → other ≢ number → txn.update ≡ true → IsSome ((told other).mine.held page) → IsMet clients (moment_in told commits seats) number txn
+  user_met other low apart update held = elim (found_client clients other) [
+    | inl found ↦ (let sits = seated.each other found.0 found.1 in
+      let is = used_in (stored_image sits.0.client page) (told other).mine page (entry_of sits.0.client page) (sits.2.own.tied page) held in
+      let busy = busy_seat serves told schema clients seats commits other found.0 sits.0 page found.1 sits.1 sits.2 is in
+      record {
+        other = other;
+        another = apart;
+        begun = busy.txn;
+        is_in = busy.is_in;
+        executed = busy.executed.executed;
+        updates = inl update;
+      })
+    | inr none ↦ absurd (not_some ((told other).mine.held page) ((seated.vacant other none low).held page) held)
+  ]
+
+  pub is_met : MeetsAnother txn.update (told number) page → IsMet clients (moment_in told commits seats) number txn
+  is_met met = elim met [
+    | inl owner ↦ (let other = owner (all.tells number) in
+      owner_met other.0 other.1 (λ same. other.2 (same ∙ sym (all.client number)))
+      (ap (λ (side : Side Entry). side.owned page) (sym (all.others number other.0)) ∙ other.3))
+    | inr user ↦ (let other = user.1 (all.tells number) in
+      user_met other.0 other.1 (λ same. other.2 (same ∙ sym (all.client number))) user.0
+      (subst (λ (side : Side Entry). IsSome (side.held page)) (all.others number other.0) other.3))
+  ]
