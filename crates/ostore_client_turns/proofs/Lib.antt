@@ -1,2 +1,5 @@
 pub mod StayLaws
 pub mod MetLaws
+pub mod TurnLaws
+pub mod StoreLaws
+pub mod NameLaws

@@ -23,20 +23,18 @@ pub(crate) struct Store<'s, 'a, D, M: Mapper> {
 }
 
 impl<'s, 'a, D: Disk, M: Mapper> Attempts for Store<'s, 'a, D, M> {
-    ghost use Rattle.std.specs.Prelude.{ℕ};
-    ghost use Rattle.std.specs.List.{slice_get};
-    ghost use Rattle.ostore_page_service.specs.Servers.{first_of, journal_of, opened_of, told_of, Serves};
+    ghost use Rattle.ostore_page_service.specs.Servers.{first_of, opened_of};
     ghost use Rattle.ostore_client_turns.specs.Runs.{bounds_of, script_of};
-    ghost use Rattle.ostore_client_turns.specs.inside.Stores.{IsReady, StoreConstants, moment_in};
+    ghost use Rattle.ostore_client_turns.specs.inside.AtServer.{IsReadyAt, moment_at};
     ghost use Rattle.ostore_client_turns.specs.inside.Seats.{seats_in};
+    ghost use Rattle.ostore_client_turns.specs.inside.Stores.{StoreConstants};
 
     ghost Constants = { StoreConstants };
 
     ghost clients = { λ s. s.job.now.clients };
 
-    ghost moment = { λ s. moment_in
-        (λ client. told_of s.server.ghost_name D.faults client s.server.now)
-        (journal_of s.server.now).number (seats_in s.seats.items) };
+    ghost moment = { λ s. moment_at D.faults s.server.now s.server.ghost_name
+        (seats_in s.seats.items) };
 
     ghost constants = { λ s. record {
         behind = s.server.ghost_name;
@@ -48,9 +46,8 @@ impl<'s, 'a, D: Disk, M: Mapper> Attempts for Store<'s, 'a, D, M> {
 
     ghost bounds = { λ c. bounds_of (script_of c.schema c.job) c.opened };
 
-    ghost ready = { λ s. IsReady (Serves s.server.now)
-        (λ client. told_of s.server.ghost_name D.faults client s.server.now)
-        s.schema.now s.job.now (seats_in s.seats.items) };
+    ghost ready = { λ s. IsReadyAt D.faults s.server.now s.schema.now s.job.now
+        (seats_in s.seats.items) };
 
     fn execute(&mut self, client: ClientNo, txn: &Txn, _at: Place) -> Result<Gave, OutOfMemory> {
         let number = usize::from(client.0);
