@@ -54,7 +54,7 @@ use Rattle.ostore_client_turns.proofs.TurnLaws.{commits_turned, has_cause, numbe
 
 -- ---- lists
 
-all_at : {X : Type 0} (P : X → Type 0) (xs : List X) (i : ℕ) (x : X) → AllByRecursion P xs → slice_get xs i ≡ Some x → P x
+pub all_at : {X : Type 0} (P : X → Type 0) (xs : List X) (i : ℕ) (x : X) → AllByRecursion P xs → slice_get xs i ≡ Some x → P x
 all_at P [] i x all there = absurd (none-some x there)
 all_at P (y ∷ ys) zero x all there = subst P (same_Some y x there) all.0
 all_at P (y ∷ ys) (suc i) x all there = all_at P ys i x all.1 there
@@ -132,7 +132,7 @@ module _ (serves later : Script → Type 0) (told now : ℕ → Told Entry) (ope
     (ready : IsReady serves told schema job seats) (all : AreTold told opened commits) (all_now : AreTold now opened then)
     (turn : IsTurn job seats number client txn old) (replaces : Replaces seats after number new)
     (took : TakesTurn serves later (told number) (now number) client.tries txn old new gave) where
-  before : Moment
+  abbrev before : Moment
   before = moment_in told commits seats
 
   low : number < most_clients
@@ -338,7 +338,7 @@ module _ (serves later : Script → Type 0) (told now : ℕ → Told Entry) (ope
     )
   ]
 
-  pub may_turn : MayGive job.clients before number txn gave
+  pub may_turn : MayGive job.clients (moment_in told commits seats) number txn gave
   may_turn = may_by took.result took.executes.gives took.gives
 
   pub commits_then_are : then ≡ commits_then gave commits

@@ -28,7 +28,7 @@ use Rattle.ostore_transactions.specs.declared.line.Line.{Line}
 use Rattle.ostore_transactions.specs.declared.line.Line.TheVariants as lines
 use Rattle.ostore_transactions.specs.Attempts.{IsAt, IsOver, IsWith, line_at, line_in}
 use Rattle.ostore_transactions.specs.Causes.{ComesAt, IsCause}
-use Rattle.ostore_transactions.specs.Lines.{HasFailed, IsAborted, IsCommitted, IsGoing}
+use Rattle.ostore_transactions.specs.Lines.{entry_by}
 use Rattle.ostore_turns.specs.declared.attempts.Gave.{Gave}
 use Rattle.ostore_turns.specs.declared.attempts.Gave.TheVariants.{Going, Committed, Aborted, Failed}
 use Rattle.ostore_turns.specs.declared.place.Place.{Place}
@@ -167,8 +167,11 @@ module _ (serves later : Script → Type 0) (told now : Told Entry) (schema : Sc
   seat_by gave (Ok (lines.Committed number replies)) gives is moves =
       let place : new.place ≡ next_txn old.place = moves ∙ ap (moved client.tries old.place) (same_going is) in
       let older : AreBefore (old.place.txn + 1 + 1) told.mine.records = before_later told.mine.records (old.place.txn + 1) (old.place.txn + 1 + 1) (omega arith) seated.earlier in
+      let entry : Entry = entry_by told.client (old.place.txn + 1) txn replies in
+      let P : Entry × ℕ → Type 0 = λ earlier. earlier.0.ordinal < old.place.txn + 1 + 1 in
+      let last : All P ((entry, number) ∷ []) = All-cons P (entry, number) [] (omega arith) (All-nil P) in
       let all : AreBefore (old.place.txn + 1 + 1) now.mine.records = subst (AreBefore (old.place.txn + 1 + 1)) (sym gives.done.records)
-              (All-append _ told.mine.records _ older (All-cons _ _ [] (let low : old.place.txn + 1 < old.place.txn + 1 + 1 = omega arith in low) (All-nil _))) in
+              (All-append P told.mine.records ((entry, number) ∷ []) older last) in
       ended_seat later now schema client new own of_schema most_same frames_same gives.over (ap (λ (p : Place). p.line) place)
       (subst (λ (p : Place). AreBefore (p.txn + 1) now.mine.records) (sym place) all)
   seat_by gave (Ok lines.Aborted) gives is moves =

@@ -2,6 +2,7 @@
 
 ghost use Rattle.std.specs.Prelude.{◌≡◌, ◌<◌, ◌+◌, IfOk, Some};
 ghost use Rattle.ostore_base.specs.Limits.{most_clients};
+ghost use Rattle.ostore_page_service.specs.Servers.{first_of, opened_of};
 ghost use Rattle.ostore_turns.specs.Places.{HasRoom};
 ghost use Rattle.ostore_client_turns.specs.inside.AtServer.{ExecutesAt, MayExecuteAt, TakesTurnAt};
 ghost use Rattle.ostore_client_turns.specs.inside.Seats.{view_of};
@@ -48,6 +49,8 @@ fn run_line_there<D: Disk, M: Mapper>(
     ensures executes { ExecutesAt D.faults service.old.server.now service.new.server.now
         service.old.seat.client.0 txn.now ordinal (view_of seat.old) (view_of seat.new) result }
     ensures name { service.new.server.ghost_name ≡ service.old.server.ghost_name }
+    ensures first { first_of service.new.server.now ≡ first_of service.old.server.now }
+    ensures opened { opened_of service.new.server.now ≡ opened_of service.old.server.now }
     ensures place { seat.new.place ≡ seat.old.place }
 {
     let attempt = &mut seat.attempt;
@@ -70,6 +73,8 @@ fn run_line_at<D: Disk, M: Mapper>(
         (view_of seat.old) }
     ensures executes { ExecutesAt D.faults server.old server.new number.0 txn.now ordinal
         (view_of seat.old) (view_of seat.new) result }
+    ensures first { first_of server.new ≡ first_of server.old }
+    ensures opened { opened_of server.new ≡ opened_of server.old }
     ensures place { seat.new.place ≡ seat.old.place }
 {
     let mut service = server.as_client(number);
@@ -93,6 +98,8 @@ impl<'a, M: Mapper> Seat<'a, M> {
             (self.old.place.txn + 1) (view_of self.old) }
         ensures took { IfOk result (TakesTurnAt D.faults server.old server.new number.0 tries txn.now
             (view_of self.old) (view_of self.new)) }
+        ensures first { first_of server.new ≡ first_of server.old }
+        ensures opened { opened_of server.new ≡ opened_of server.old }
     {
         let at = self.place;
         let line = run_line_at(alloc, self, server, number, schema, txn, at.txn + 1);

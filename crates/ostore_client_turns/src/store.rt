@@ -23,6 +23,7 @@ pub(crate) struct Store<'s, 'a, D, M: Mapper> {
 }
 
 impl<'s, 'a, D: Disk, M: Mapper> Attempts for Store<'s, 'a, D, M> {
+    ghost use Rattle.std.specs.Prelude.{◌≡◌, length};
     ghost use Rattle.ostore_page_service.specs.Servers.{first_of, opened_of};
     ghost use Rattle.ostore_client_turns.specs.Runs.{bounds_of, script_of};
     ghost use Rattle.ostore_client_turns.specs.inside.AtServer.{IsReadyAt, moment_at};
@@ -47,7 +48,7 @@ impl<'s, 'a, D: Disk, M: Mapper> Attempts for Store<'s, 'a, D, M> {
     ghost bounds = { λ c. bounds_of (script_of c.schema c.job) c.opened };
 
     ghost ready = { λ s. IsReadyAt D.faults s.server.now s.schema.now s.job.now
-        (seats_in s.seats.items) };
+        (seats_in s.seats.items) × (length s.seats.items ≡ length s.job.now.clients) };
 
     fn execute(&mut self, client: ClientNo, txn: &Txn, _at: Place) -> Result<Gave, OutOfMemory> {
         let number = usize::from(client.0);
