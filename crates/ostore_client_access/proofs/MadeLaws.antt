@@ -113,33 +113,37 @@ client_kept k l a b t u x y (Err (stops.NoSpace lack)) passes stopped = stopped.
 client_kept k l a b t u x y (Err stops.OutOfMemory) passes stopped = stopped.1.client
 
 -- whatever came, the service is the client's own
-pub own_kept : {T : Type 0} {P : T → List PageImage → List PageImage → Type 0} {Q : NoSpace → List PageImage → List PageImage → Type 0} {R : List PageImage → List PageImage → Type 0} (k l : Bool) (a b : Script → Type 0) (t u : Told Entry) (x y : ClientView) (r : Result T (Stop AttemptFault))
+pub own_kept : {T : Type 0} (P : T → List PageImage → List PageImage → Type 0) (Q : NoSpace → List PageImage → List PageImage → Type 0) (R : List PageImage → List PageImage → Type 0) (k l : Bool) (a b : Script → Type 0) (t u : Told Entry) (x y : ClientView) (r : Result T (Stop AttemptFault))
     → IfOk r (λ value. Becomes (access_held a t x) (access_held b u y) (P value))
     → IfErr r (λ stop. Stopped stop (λ fault. HasFailed k l fault a b t u x y) (HasPassed k l a b t u x y))
     → IfErr r (IfNoSpace (λ no. Becomes (access_held a t x) (access_held b u y) (Q no)))
     → IfErr r (IfOutOfMemory (Becomes (access_held a t x) (access_held b u y) R))
     → IsOwn b u y
-own_kept k l a b t u x y (Ok value) lists stopped space memory = lists.some.2.runs.own
-own_kept k l a b t u x y (Err (stops.Fault fault)) lists stopped space memory = stopped.1.own
-own_kept k l a b t u x y (Err (stops.NoSpace lack)) lists stopped space memory = space.some.2.runs.own
-own_kept k l a b t u x y (Err stops.OutOfMemory) lists stopped space memory = memory.some.2.runs.own
+own_kept P Q R k l a b t u x y (Ok value) lists stopped space memory = lists.some.2.runs.own
+own_kept P Q R k l a b t u x y (Err (stops.Fault fault)) lists stopped space memory = stopped.1.own
+own_kept P Q R k l a b t u x y (Err (stops.NoSpace lack)) lists stopped space memory = space.some.2.runs.own
+own_kept P Q R k l a b t u x y (Err stops.OutOfMemory) lists stopped space memory = memory.some.2.runs.own
 
 -- the same for one line, whose lists are known where it was Ok
-pub own_line : {T : Type 0} {P : List PageImage → List PageImage → Type 0} {Q : NoSpace → List PageImage → List PageImage → Type 0} {R : List PageImage → List PageImage → Type 0} (k l : Bool) (a b : Script → Type 0) (t u : Told Entry) (x y : ClientView) (r : Result T (Stop AttemptFault))
+pub own_line : {T : Type 0} (P : List PageImage → List PageImage → Type 0) (Q : NoSpace → List PageImage → List PageImage → Type 0) (R : List PageImage → List PageImage → Type 0) (k l : Bool) (a b : Script → Type 0) (t u : Told Entry) (x y : ClientView) (r : Result T (Stop AttemptFault))
     → OnOk r (Becomes (access_held a t x) (access_held b u y) P)
     → IfErr r (λ stop. Stopped stop (λ fault. HasFailed k l fault a b t u x y) (HasPassed k l a b t u x y))
     → IfErr r (IfNoSpace (λ no. Becomes (access_held a t x) (access_held b u y) (Q no)))
     → IfErr r (IfOutOfMemory (Becomes (access_held a t x) (access_held b u y) R))
     → IsOwn b u y
-own_line k l a b t u x y (Ok value) lists stopped space memory = lists.some.2.runs.own
-own_line k l a b t u x y (Err (stops.Fault fault)) lists stopped space memory = stopped.1.own
-own_line k l a b t u x y (Err (stops.NoSpace lack)) lists stopped space memory = space.some.2.runs.own
-own_line k l a b t u x y (Err stops.OutOfMemory) lists stopped space memory = memory.some.2.runs.own
+own_line P Q R k l a b t u x y (Ok value) lists stopped space memory = lists.some.2.runs.own
+own_line P Q R k l a b t u x y (Err (stops.Fault fault)) lists stopped space memory = stopped.1.own
+own_line P Q R k l a b t u x y (Err (stops.NoSpace lack)) lists stopped space memory = space.some.2.runs.own
+own_line P Q R k l a b t u x y (Err stops.OutOfMemory) lists stopped space memory = memory.some.2.runs.own
 
-pub space_lacks : {T : Type 0} {P : NoSpace → List PageImage → List PageImage → Type 0} (a b : Script → Type 0) (t u : Told Entry) (x y : ClientView) (txn : Txn) (r : Result T (Stop AttemptFault)) → ((no : NoSpace) → Becomes (access_held a t x) (access_held b u y) (P no) → LacksOnEach b u y txn)
+pub space_map : {T : Type 0} (P Q : NoSpace → Type 0) (r : Result T (Stop AttemptFault)) → ((lack : NoSpace) → P lack → Q lack) → IfErr r (IfNoSpace P) → IfErr r (IfNoSpace Q)
+space_map P Q (Ok value) more one = one
+space_map P Q (Err stop) more one = no_space_map P Q stop more one
+
+pub space_lacks : {T : Type 0} (P : NoSpace → List PageImage → List PageImage → Type 0) (a b : Script → Type 0) (t u : Told Entry) (x y : ClientView) (txn : Txn) (r : Result T (Stop AttemptFault)) → ((no : NoSpace) → Becomes (access_held a t x) (access_held b u y) (P no) → LacksOnEach b u y txn)
     → IfErr r (IfNoSpace (λ no. Becomes (access_held a t x) (access_held b u y) (P no))) → IfErr r (IfNoSpace (λ no. LacksOnEach b u y txn))
-space_lacks a b t u x y txn (Ok value) more one = one
-space_lacks a b t u x y txn (Err stop) more one = no_space_map _ _ stop more one
+space_lacks P a b t u x y txn (Ok value) more one = one
+space_lacks P a b t u x y txn (Err stop) more one = no_space_map _ _ stop more one
 
 -- a transaction that updates may change the holder's pages
 pub may_change : (k updates may : Bool) → k ≡ updates → (updates ≡ true → may ≡ true) → updates ≡ true → (k && may) ≡ true

@@ -1,5 +1,5 @@
 -- Calls of a client that were Ok, or failed, one after the other.
-use Rattle.std.proofs.Common.{◌≡◌, ◌<◌, ℕ, Bool, true, false, inl, inr, refl, sym, ap, subst, ◌∙◌}
+use Rattle.std.proofs.Common.{◌≡◌, ◌<◌, ℕ, ◌+◌, ◌*◌, ◌/◌, ◌%◌, Bool, true, false, nat_eq, List, None, inl, inr, refl, sym, ap, subst, ◌∙◌, arith}
 use Rattle.std.proofs.lemmas.Bool.{and_parts, false≢true}
 use Rattle.std.specs.Prelude.{◌&&◌, Option, Some, IfSome, Result, Ok, Err, OnOk, IfErr, length}
 use Rattle.std.specs.Map.{set_value}
@@ -8,15 +8,18 @@ use Rattle.ostore_base.specs.declared.numbers.PageNo.{PageNo}
 use Rattle.ostore_page_service.specs.Told.{Told, SameRecords, StillServes, NoBusy, OwnedByAnother, UsedByAnother}
 use Rattle.ostore_graph_model.specs.declared.commands.Script.{Script}
 use Rattle.ostore_graph_model.specs.declared.history.Entry.{Entry}
+use Rattle.ostore_client_cache.specs.declared.entries.CachedPage.{CachedPage}
+use Rattle.ostore_client_cache.specs.Entries.{is_owner, is_owned, with_bytes}
 use Rattle.ostore_client_cache.specs.Caches.{used_pages}
 use Rattle.ostore_client_core.specs.declared.fault.AttemptFault.{AttemptFault}
 use Rattle.ostore_client_core.specs.declared.fault.AttemptFault.TheVariants.{Busy, NoSpace, CacheFull, SpaceFull, Commit, OutOfMemory}
-use Rattle.ostore_client_core.specs.Clients.{ClientView, IsOwn}
+use Rattle.ostore_client_core.specs.Clients.{ClientView, entry_of, with_pages, IsOwn}
 use Rattle.ostore_client_core.specs.Attempts.{Narrows}
-use Rattle.ostore_client_core.specs.Calls.{SameClient, OwnsNoMore, IsBusy, Refused}
+use Rattle.ostore_client_core.specs.Calls.{SameClient, IsAddressOf, IsBusy, Refused}
 use Rattle.ostore_client_core.proofs.RecordLaws.{calm_refl}
 use Rattle.ostore_client_access.specs.Accesses.{MeetsAnother, Passes, Fails, Causes}
-use Rattle.ostore_client_access.specs.inside.Passing.{HasPassed, HasFailed, client_refl}
+use Rattle.ostore_client_access.specs.inside.Passing.{HasPassed, HasFailed}
+use Rattle.ostore_client_access.specs.inside.Puts.{PutsInto}
 
 -- ---- why a page didn't come, and why it isn't owned
 
@@ -101,4 +104,34 @@ own_fails b c u v fault y z page frame leads refused own same served client =
       client = client;
       owned = λ reads. absurd (false≢true (sym reads));
       cause = busy_causes fault u v z page.0 why.1;
+    }
+
+-- ---- bytes that are put into a page
+
+owned_there : (found : Option CachedPage) → is_owned found ≡ true → (entry : CachedPage) × (found ≡ Some entry) × (is_owner entry.hold ≡ true)
+owned_there None is = absurd (false≢true is)
+owned_there (Some entry) is = (entry, refl, is)
+
+-- what a store at an address in the frame of an owned page does
+abbrev StoresAt : ClientView → ClientView → Option PageNo → ℕ → List ℕ → Type 0
+StoresAt y new found at bytes = IfSome found (λ p. IfSome (entry_of y p.0) (λ entry. new ≡ with_pages (set_value (nat_eq p.0) y.pages (with_bytes entry at bytes)) y))
+
+pub puts_into : (a b : Script → Type 0) (t u : Told Entry) (x y new : ClientView) (page address at moved : ℕ) (bytes : List ℕ) → moved ≡ at → Narrows a b t u x y → is_owned (entry_of y page) ≡ true → IsAddressOf y page address → at < 4096
+    → IfSome (page_in y.frames.pages ((address + moved) / 4096)) (λ p. IfSome (entry_of y p.0) (λ entry. new ≡ with_pages (set_value (nat_eq p.0) y.pages (with_bytes entry ((address + moved) % 4096) bytes)) y)) → PutsInto a b t u x new page at bytes
+puts_into a b t u x y new page address at moved bytes same narrows owned is low stores =
+    let found = owned_there (entry_of y page) owned in
+    let first = is.first in
+    let frame : (address + moved) / 4096 ≡ address / 4096 = omega arith in
+    let place : (address + moved) % 4096 ≡ at = omega arith in
+    record {
+      owned = y;
+      narrows = narrows;
+      entry = found.0;
+      there = found.1;
+      owner = found.2;
+      client =
+          subst (λ (o : Option CachedPage). IfSome o (λ entry. new ≡ with_pages (set_value (nat_eq page) y.pages (with_bytes entry at bytes)) y)) found.1
+          (subst (λ (o : Option PageNo). StoresAt y new o at bytes) is.leads
+          (subst (λ (k : ℕ). StoresAt y new (page_in y.frames.pages k) at bytes) frame
+          (subst (λ (k : ℕ). StoresAt y new (page_in y.frames.pages ((address + moved) / 4096)) k bytes) place stores)));
     }

@@ -1,7 +1,8 @@
 -- An attempt that begins: no page is in use.
-use Rattle.std.proofs.Common.{◌≡◌, ◌≤◌, ℕ, zero, suc, false, nat_eq, List, [], length, get_or, replicate, Option, Some, None, sym, ap, subst, ◌∙◌, arith}
+use Rattle.std.proofs.Common.{◌≡◌, ◌≤◌, ℕ, zero, suc, false, nat_eq, List, [], length, get_or, replicate, Option, Some, None, refl, sym, ap, subst, ◌∙◌, arith}
 use Rattle.std.specs.Map.{lookup}
 use Rattle.std.proofs.lemmas.Bool.{false≢true}
+use Rattle.ostore_base.specs.declared.numbers.PageNo.{PageNo}
 use Rattle.ostore_base.specs.declared.page.PageImage.{PageImage}
 use Rattle.ostore_schema_layout.specs.declared.schema.Schema.{Schema}
 use Rattle.ostore_address_space.specs.Frames.{ArePaired}
@@ -66,7 +67,7 @@ pub free_frames_of : (count : ℕ) → AreFree (replicate count None)
 free_frames_of count zero = refl
 free_frames_of count (suc i) = none_at count i
   where
-    none_at : (n k : ℕ) → get_or (replicate n None) k None ≡ None
+    none_at : (n k : ℕ) → get_or {A = Option PageNo} (replicate n None) k None ≡ None
     none_at zero k = refl
     none_at (suc n) zero = refl
     none_at (suc n) (suc k) = none_at n k

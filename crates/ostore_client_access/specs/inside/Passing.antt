@@ -1,5 +1,5 @@
 -- The laws of calls that were Ok, or failed, one after the other.
-use Rattle.std.proofs.Common.{◌≡◌, ℕ, Bool, [], ◌∷◌, ◌++◌, inl, inr, refl, subst, sym, ap, ◌∙◌, arith}
+use Rattle.std.proofs.Common.{◌≡◌, ◌≢◌, ◌<◌, ℕ, Bool, List, [], ◌∷◌, ◌++◌, inl, inr, refl, subst, sym, ap, ◌∙◌, arith}
 use Rattle.std.specs.Prelude.{length, IsSome}
 use Rattle.std.specs.Option.{option_map}
 use Rattle.ostore_base.specs.Faults.{Rose}
@@ -42,13 +42,13 @@ passes_then updates a b c t u v x y z one two = record {
 owned_then : (t u : Told Entry) (page : ℕ) → SameRecords t u → OwnedByAnother u page → OwnedByAnother t page
 owned_then t u page same met = λ tells.
     let other = met (same.service.tells_others ∙ tells) in
-    let apart = λ e. other.2 (e ∙ sym same.service.client) in
+    let apart : other.0 ≢ t.client = λ e. other.2 (e ∙ sym same.service.client) in
     (other.0, other.1, apart, sym ((same.service.others other.0 other.1 apart).owned page) ∙ other.3)
 
 used_then : (t u : Told Entry) (page : ℕ) → SameRecords t u → UsedByAnother u page → UsedByAnother t page
 used_then t u page same met = λ tells.
     let other = met (same.service.tells_others ∙ tells) in
-    let apart = λ e. other.2 (e ∙ sym same.service.client) in
+    let apart : other.0 ≢ t.client = λ e. other.2 (e ∙ sym same.service.client) in
     (other.0, other.1, apart, subst IsSome ((same.service.others other.0 other.1 apart).held page) other.3)
 
 meets_then : (updates : Bool) (t u : Told Entry) (page : ℕ) → SameRecords t u → MeetsAnother updates u page → MeetsAnother updates t page

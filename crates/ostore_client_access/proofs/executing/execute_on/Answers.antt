@@ -24,7 +24,7 @@ pub returns-clause-client : goal.returns-clause-client
 returns-clause-client g c = client_kept c.args.access.now.updates c.run_transaction.new.pages.updates (g.S.PageClaims.serves c.args.access.now.service.now) (g.S.PageClaims.serves c.run_transaction.new.pages.service.now) (g.S.PageClaims.tells c.args.access.now.service.now) (g.S.PageClaims.tells c.run_transaction.new.pages.service.now) c.args.access.now.client.now c.run_transaction.new.pages.client.now c.run_transaction.result c.run_transaction.ensures.passes c.run_transaction.ensures.stops
 
 pub returns-clause-own : goal.returns-clause-own
-returns-clause-own g c = own_kept c.args.access.now.updates c.run_transaction.new.pages.updates (g.S.PageClaims.serves c.args.access.now.service.now) (g.S.PageClaims.serves c.run_transaction.new.pages.service.now) (g.S.PageClaims.tells c.args.access.now.service.now) (g.S.PageClaims.tells c.run_transaction.new.pages.service.now) c.args.access.now.client.now c.run_transaction.new.pages.client.now c.run_transaction.result c.run_transaction.ensures.lists c.run_transaction.ensures.stops c.run_transaction.ensures.space c.run_transaction.ensures.memory
+returns-clause-own g c = own_kept _ _ _ c.args.access.now.updates c.run_transaction.new.pages.updates (g.S.PageClaims.serves c.args.access.now.service.now) (g.S.PageClaims.serves c.run_transaction.new.pages.service.now) (g.S.PageClaims.tells c.args.access.now.service.now) (g.S.PageClaims.tells c.run_transaction.new.pages.service.now) c.args.access.now.client.now c.run_transaction.new.pages.client.now c.run_transaction.result c.run_transaction.ensures.lists c.run_transaction.ensures.stops c.run_transaction.ensures.space c.run_transaction.ensures.memory
 
 pub returns-clause-made : goal.returns-clause-made
 returns-clause-made g c = made_ok (g.S.PageClaims.serves c.args.access.now.service.now) (g.S.PageClaims.serves c.run_transaction.new.pages.service.now) (g.S.PageClaims.tells c.args.access.now.service.now) (g.S.PageClaims.tells c.run_transaction.new.pages.service.now) c.args.access.now.client.now c.run_transaction.new.pages.client.now c.args.schema.now c.args.txn.now c.run_transaction.result c.requires.idle
@@ -33,4 +33,4 @@ returns-clause-made g c = made_ok (g.S.PageClaims.serves c.args.access.now.servi
     c.run_transaction.ensures.lists
 
 pub returns-clause-space : goal.returns-clause-space
-returns-clause-space g c = space_lacks (g.S.PageClaims.serves c.args.access.now.service.now) (g.S.PageClaims.serves c.run_transaction.new.pages.service.now) (g.S.PageClaims.tells c.args.access.now.service.now) (g.S.PageClaims.tells c.run_transaction.new.pages.service.now) c.args.access.now.client.now c.run_transaction.new.pages.client.now c.args.txn.now c.run_transaction.result (λ no. lacks_begun (g.S.PageClaims.serves c.args.access.now.service.now) (g.S.PageClaims.serves c.run_transaction.new.pages.service.now) (g.S.PageClaims.tells c.args.access.now.service.now) (g.S.PageClaims.tells c.run_transaction.new.pages.service.now) c.args.access.now.client.now c.run_transaction.new.pages.client.now c.args.txn.now c.requires.idle) c.run_transaction.ensures.space
+returns-clause-space g c = space_lacks _ (g.S.PageClaims.serves c.args.access.now.service.now) (g.S.PageClaims.serves c.run_transaction.new.pages.service.now) (g.S.PageClaims.tells c.args.access.now.service.now) (g.S.PageClaims.tells c.run_transaction.new.pages.service.now) c.args.access.now.client.now c.run_transaction.new.pages.client.now c.args.txn.now c.run_transaction.result (λ no. lacks_begun (g.S.PageClaims.serves c.args.access.now.service.now) (g.S.PageClaims.serves c.run_transaction.new.pages.service.now) (g.S.PageClaims.tells c.args.access.now.service.now) (g.S.PageClaims.tells c.run_transaction.new.pages.service.now) c.args.access.now.client.now c.run_transaction.new.pages.client.now c.args.txn.now c.requires.idle) c.run_transaction.ensures.space

@@ -33,7 +33,7 @@ take-requires-clause-fit g c =
 
 -- ---- kept
 
-kept_came : (g : Over) (c : goal.In-Ok-Kept g) → (entry : CachedPage) × Comes (g.S.PageClaims.serves c.args.service.now) (g.S.PageClaims.serves c.claim_read.new.self) (g.S.PageClaims.tells c.args.service.now) (g.S.PageClaims.tells c.claim_read.new.self) c.args.self.now c.use_page.new.self c.args.page.0 entry
+kept_came : (g : Over) (c : goal.After-use_page g) → (entry : CachedPage) × Comes (g.S.PageClaims.serves c.args.service.now) (g.S.PageClaims.serves c.claim_read.new.self) (g.S.PageClaims.tells c.args.service.now) (g.S.PageClaims.tells c.claim_read.new.self) c.args.self.now c.use_page.new.self c.args.page.0 entry
 kept_came g c =
     let told : Told Entry = g.S.PageClaims.tells c.args.service.now in
     let now : Told Entry = g.S.PageClaims.tells c.claim_read.new.self in
