@@ -1,12 +1,10 @@
 -- A list by groups of its elements' keys: those of one key after the other, each group in the list's order.
-use Rattle.std.proofs.Common.{◌≡◌, ◌≢◌, ℕ, zero, suc, ◌+◌, ◌<◌, ◌≤◌, Bool, true, false, List, [], ◌∷◌, ◌++◌, length, get_or, refl, sym, ap, subst, ◌∙◌, arith}
+use Rattle.std.proofs.Common.{◌≡◌, ◌≢◌, ℕ, zero, suc, ◌+◌, ◌<◌, ◌≤◌, Bool, List, [], ◌++◌, get_or, refl, sym, ap, subst, ◌∙◌, arith}
 use Rattle.std.proofs.Common.{⊎_elim}
 use Rattle.std.specs.Prelude.{All, AllPairs, IsPermutation, filter, not, ◌&&◌, nat_eq, nat_le}
-use Rattle.std.specs.List.{sum_by}
-use Rattle.std.proofs.lemmas.Bool.{cases_eq, cases_lt, eq-eqb, ne_eqb, eqb-true, le-leb, lt-leb, leb-true}
+use Rattle.std.proofs.lemmas.Bool.{cases_eq, cases_lt, eq-eqb, ne_eqb, eqb-true, le-leb, lt-leb}
 use Rattle.std.proofs.lemmas.List.{append-nil, append_assoc}
-use Rattle.std.proofs.lemmas.List.Sums.{sum_by-append}
-use Rattle.std.proofs.lemmas.List.Elements.{All-nil, All-append, All-filter, All-weaker, filter-append, filter_passes}
+use Rattle.std.proofs.lemmas.List.Elements.{All-nil, All-append, All-filter, filter-append, filter_passes}
 use Rattle.std.proofs.lemmas.List.Kept.{AllPairs-filter}
 use Rattle.std.proofs.lemmas.List.Sorted.{IsPermutation-refl, IsPermutation-trans, IsPermutation-append_right, IsPermutation-filter_both}
 use Rattle.ostore_graph_history.proofs.ListLaws.{filter_both, filter_all, filter_none, filter_swap, pairs-nil, pairs-append}
@@ -25,9 +23,9 @@ behind n c =
     ⊎_elim
     (λ (same : n ≡ c). lt-leb (c + 1) n (omega (arith, same)) ∙ sym (λ i. not (eq-eqb n c same i) && nat_le c n))
     (λ (apart : n ≢ c). ⊎_elim
-        (λ (below : n < c). lt-leb (c + 1) n (omega (arith, below)) ∙ sym (λ i. not (ne_eqb n c apart i) && lt-leb c n below i))
-        (λ (above : c ≤ n). le-leb (c + 1) n (higher apart above) ∙ sym (λ i. not (ne_eqb n c apart i) && le-leb c n above i))
-        (cases_lt n c))
+    (λ (below : n < c). lt-leb (c + 1) n (omega (arith, below)) ∙ sym (λ i. not (ne_eqb n c apart i) && lt-leb c n below i))
+    (λ (above : c ≤ n). le-leb (c + 1) n (higher apart above) ∙ sym (λ i. not (ne_eqb n c apart i) && le-leb c n above i))
+    (cases_lt n c))
     (cases_eq n c)
   where
     higher : n ≢ c → c ≤ n → c + 1 ≤ n
@@ -49,7 +47,7 @@ module _ {X : Type 0} (key : X → ℕ) where
   one_group c xs =
       subst (λ (ys : List X). IsPermutation (filter (is_from c) xs) ys)
       (λ i. filter_both (is_at c) (is_from c) (is_at c) (λ x. at_and_from (key x) c) xs i
-          ++ filter_both (λ x. not (is_at c x)) (is_from c) (is_from (c + 1)) (λ x. behind (key x) c) xs i)
+      ++ filter_both (λ x. not (is_at c x)) (is_from c) (is_from (c + 1)) (λ x. behind (key x) c) xs i)
       (IsPermutation-filter_both (is_at c) (λ x. not (is_at c x)) (λ x. refl) (filter (is_from c) xs))
 
   grouped_from : (c k : ℕ) (xs : List X) → IsPermutation (filter (is_from c) xs) (groups c k xs ++ filter (is_from (c + k)) xs)

@@ -1,9 +1,8 @@
 -- Growth by commands in one place or in several.
-use Rattle.std.proofs.Common.{◌≡◌, ℕ, ◌+◌, ◌*◌, ◌≤◌, List, length, ap, sym, ◌∙◌, arith}
+use Rattle.std.proofs.Common.{◌≡◌, ℕ, ◌+◌, ◌*◌, ◌≤◌, List, ap, ◌∙◌, arith}
 use Rattle.std.proofs.lemmas.Nat.{mul-le}
 use Rattle.std.proofs.Math.Nat.{add-mul}
 use Rattle.ostore_base.specs.declared.page.PageImage.{PageImage}
-use Rattle.ostore_page_tags.specs.Allocated.{HasFree}
 use Rattle.ostore_graph_model.specs.Growth.{growth_by}
 use Rattle.ostore_object_ops.specs.Executes.{TakesAtMost}
 

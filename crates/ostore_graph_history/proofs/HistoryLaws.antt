@@ -1,14 +1,12 @@
 -- What committed, client by client, is a legal history too.
-use Rattle.std.proofs.Common.{◌≡◌, ◌≢◌, ℕ, zero, suc, ◌+◌, ◌-◌, ◌<◌, ◌≤◌, Bool, true, false, List, [], ◌∷◌, ◌++◌, map, length, get_or, Option, None, Some, refl, sym, ap, subst, ◌∙◌, arith}
+use Rattle.std.proofs.Common.{◌≡◌, ℕ, suc, ◌+◌, ◌-◌, ◌<◌, Bool, true, false, List, [], ◌∷◌, ◌++◌, map, length, get_or, Option, None, Some, refl, sym, ap, subst, ◌∙◌, arith}
 use Rattle.std.specs.Prelude.{All, AllPairs, IsPermutation, filter, option_and_then, ◌==◌, if◌then◌else◌}
 use Rattle.std.specs.List.{slice_get, range_with_len}
 use Rattle.std.proofs.lemmas.List.{map-append}
 use Rattle.std.proofs.lemmas.List.Elements.{All-filter}
 use Rattle.std.proofs.lemmas.List.Sorted.{All-permutation, IsPermutation-map, IsPermutation-sym, IsPermutation-trans, length_permutation}
 use Rattle.std.proofs.lemmas.Option.{none-some, slice_get_within}
-use Rattle.ostore_base.specs.Limits.{most_clients}
 use Rattle.ostore_base.specs.declared.numbers.ClientNo.{ClientNo}
-use Rattle.ostore_base.specs.declared.page.PageImage.{PageImage}
 use Rattle.ostore_graph_model.specs.declared.commands.Script.{Script}
 use Rattle.ostore_graph_model.specs.declared.commands.Txn.{Txn}
 use Rattle.ostore_graph_model.specs.declared.history.Committed.{Committed}
@@ -18,12 +16,11 @@ use Rattle.ostore_graph_model.specs.History.{txn_at, updates, last_number, IsRig
 use Rattle.ostore_graph_model.proofs.GraphExists.{graph_exists}
 use Rattle.ostore_run_report.specs.declared.results.TxnResult.{TxnResult}
 use Rattle.ostore_run_report.specs.Results.{committed_from, committed_by, committed_of}
-use Rattle.ostore_page_service.specs.History.{IsServed, IsLegal}
 use Rattle.ostore_client_core.specs.Kinds.{graph_meaning}
-use Rattle.ostore_graph_history.specs.Histories.{committed_entry, AreResultsOf, IsHistoryTo, LawOfCommittedHistories}
+use Rattle.ostore_graph_history.specs.Histories.{committed_entry, LawOfCommittedHistories}
 use Rattle.ostore_graph_history.proofs.ListLaws.{filter_mapped, pairs-map, pairs-unmap}
 use Rattle.ostore_graph_history.proofs.Groups.{is_at, groups, grouped, groups-pairs, groups-filter}
-use Rattle.ostore_graph_history.proofs.OrderedHistories.{IsLegalTo, legal_to}
+use Rattle.ostore_graph_history.proofs.OrderedHistories.{legal_to}
 
 -- ---- another order
 
@@ -64,8 +61,10 @@ module _ (script : Script) (first : ℕ) (graph last : Graph) (h : List (Entry �
   updates_moved : IsPermutation (updates (map committed_entry h)) (updates (map committed_entry (groups client_of 0 k h)))
   updates_moved =
       subst (λ (cs : List Committed × List Committed). IsPermutation cs.0 cs.1)
-      (λ i. (sym (updates_are h) i,
-          (ap (λ (es : List (Entry × ℕ)). map committed_entry es) (sym (groups-filter client_of is_update 0 k h)) ∙ sym (updates_are (groups client_of 0 k h))) i))
+      (λ i. (
+        sym (updates_are h) i,
+        (ap (λ (es : List (Entry × ℕ)). map committed_entry es) (sym (groups-filter client_of is_update 0 k h)) ∙ sym (updates_are (groups client_of 0 k h))) i,
+      ))
       (moved (filter is_update h) (All-filter is_update (λ e. client_of e < k) h below))
 
   apart : (x y : Entry × ℕ) → client_of x < client_of y → InOrder (committed_entry x) (committed_entry y)
@@ -91,8 +90,8 @@ told_by h c (mine ∷ others) each =
     let first : map committed_entry (filter (is_at client_of c) h) ≡ committed_from c 1 mine =
     subst (λ (n : ℕ). map committed_entry (filter (is_at client_of n) h) ≡ committed_from n 1 mine) here (each 0 mine refl) in
     let rest = told_by h (c + 1) others (λ j results there.
-        let next : c + suc j ≡ c + 1 + j = omega arith in
-        subst (λ (n : ℕ). map committed_entry (filter (is_at client_of n) h) ≡ committed_from n 1 results) next (each (suc j) results there)) in
+    let next : c + suc j ≡ c + 1 + j = omega arith in
+    subst (λ (n : ℕ). map committed_entry (filter (is_at client_of n) h) ≡ committed_from n 1 results) next (each (suc j) results there)) in
     map-append committed_entry (filter (is_at client_of c) h) (groups client_of (c + 1) (length others) h) ∙ (λ i. first i ++ rest i)
 
 -- ---- the script's clients

@@ -1,21 +1,18 @@
 -- Schemas of ints: no index, and two pages for each command.
-use Rattle.std.proofs.Common.{◌≡◌, ℕ, ◌+◌, ◌*◌, Bool, true, false, List, [], length, refl, sym, ap, ◌∙◌, arith}
+use Rattle.std.proofs.Common.{◌≡◌, ℕ, ◌+◌, ◌*◌, true, false, length, sym, ap, ◌∙◌, arith}
 use Rattle.std.specs.Prelude.{filter}
 use Rattle.std.specs.FinMap as maps
 use Rattle.std.proofs.Math.Nat.{mul-zero, zero-mul}
-use Rattle.ostore_schema_layout.specs.declared.schema.MemberKind.{MemberKind}
 use Rattle.ostore_schema_layout.specs.declared.schema.Schema.{Schema}
-use Rattle.ostore_graph_model.specs.declared.commands.Command.{Command}
-use Rattle.ostore_graph_model.specs.Graph.{Graph}
-use Rattle.ostore_graph_model.specs.Growth.{declares, growth, growth_by}
+use Rattle.ostore_graph_model.specs.Growth.{declares, growth_by}
 use Rattle.ostore_graph_model.specs.Kinds.{is_collection}
 use Rattle.ostore_graph_model.specs.LawsOfIndexes.{HasNoIndexable}
-use Rattle.ostore_graph_model.specs.Orders.{PathIndex, index_cmp}
+use Rattle.ostore_graph_model.specs.Orders.{index_cmp}
 use Rattle.ostore_graph_model.specs.Sets as sets
 use Rattle.ostore_graph_model.proofs.UndeclaredLaw.{undeclared_law}
 use Rattle.ostore_object_ops.specs.Suits.{IsOfInts}
 use Rattle.ostore_object_ops.proofs.IntSchemas.{ints_here}
-use Rattle.ostore_graph_history.specs.Space.{GrowsByTwo, LawOfSchemasOfInts}
+use Rattle.ostore_graph_history.specs.Space.{LawOfSchemasOfInts}
 
 not_indexable : (schema : Schema) → IsOfInts schema → HasNoIndexable schema
 not_indexable schema ints ty member def there collection =

@@ -1,5 +1,5 @@
 -- Entries that lead from one list of pages to another are, in their order, a legal history of graphs.
-use Rattle.std.proofs.Common.{◌≡◌, ℕ, ◌+◌, ◌<◌, ◌≤◌, Bool, true, false, List, [], ◌∷◌, ◌++◌, map, length, get_or, refl, sym, ap, subst, ◌∙◌, arith}
+use Rattle.std.proofs.Common.{◌≡◌, ℕ, ◌+◌, ◌<◌, Bool, true, false, List, [], ◌∷◌, map, length, refl, sym, ap, subst, ◌∙◌, arith}
 use Rattle.std.specs.Prelude.{All, AllPairs}
 use Rattle.std.proofs.lemmas.List.Elements.{All-nil, All-cons, All-map}
 use Rattle.std.proofs.lemmas.List.Sorted.{IsPermutation-refl}
@@ -10,10 +10,10 @@ use Rattle.ostore_graph_model.specs.declared.commands.Txn.{Txn}
 use Rattle.ostore_graph_model.specs.declared.history.Committed.{Committed}
 use Rattle.ostore_graph_model.specs.declared.history.Entry.{Entry}
 use Rattle.ostore_graph_model.specs.Graph.{Graph}
-use Rattle.ostore_graph_model.specs.History.{last_number, IsRight, InOrder, IsLegalHistory}
+use Rattle.ostore_graph_model.specs.History.{last_number, InOrder, IsLegalHistory}
 use Rattle.ostore_graph_model.specs.LawsOfHistories.{MayFollow}
 use Rattle.ostore_graph_model.specs.StandsFor.{StandsFor}
-use Rattle.ostore_graph_model.specs.Transaction.{Runs, transaction}
+use Rattle.ostore_graph_model.specs.Transaction.{Runs}
 use Rattle.ostore_graph_model.proofs.HistoryAdds.{updates-update, updates-read, added_updates, added_reads}
 use Rattle.ostore_graph_model.proofs.HistoryJoins.{last_number-append, histories_join}
 use Rattle.ostore_graph_model.proofs.StepLaws.{law_of_read_transactions}

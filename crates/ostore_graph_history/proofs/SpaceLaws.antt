@@ -1,5 +1,5 @@
 -- An update that lacks its growth somewhere in a history: the script lacked its growth at the beginning.
-use Rattle.std.proofs.Common.{◌≡◌, ℕ, ◌+◌, ◌-◌, ◌<◌, ◌≤◌, Bool, true, false, List, [], ◌∷◌, ◌++◌, length, get_or, Option, Some, refl, sym, ap, subst, ◌∙◌, arith}
+use Rattle.std.proofs.Common.{◌≡◌, ℕ, ◌+◌, ◌<◌, ◌≤◌, Bool, true, false, List, [], ◌∷◌, ◌++◌, length, get_or, Option, Some, refl, sym, ap, subst, ◌∙◌, arith}
 use Rattle.std.specs.Prelude.{All, AllPairs, filter, flat_map, nat_eq, if◌then◌else◌}
 use Rattle.std.specs.FinMap as maps
 use Rattle.std.specs.List.{sum_by}
@@ -15,22 +15,21 @@ use Rattle.ostore_graph_model.specs.declared.commands.Txn.{Txn}
 use Rattle.ostore_graph_model.specs.declared.commands.Script.{Script}
 use Rattle.ostore_graph_model.specs.declared.history.Entry.{Entry}
 use Rattle.ostore_graph_model.specs.Graph.{Graph}
-use Rattle.ostore_graph_model.specs.Growth.{growth_by, growth, declares, update_commands, script_growth}
+use Rattle.ostore_graph_model.specs.Growth.{growth_by, growth, declares, update_commands}
 use Rattle.ostore_graph_model.specs.History.{txn_at}
 use Rattle.ostore_graph_model.specs.StandsFor.{StandsFor}
 use Rattle.ostore_graph_model.proofs.GraphExists.{graph_exists}
 use Rattle.ostore_graph_model.proofs.UniqueLaws.{one_graph}
 use Rattle.ostore_object_ops.specs.Executes.{TakesAtMost}
-use Rattle.ostore_object_ops.specs.Lines.{LacksGrowth}
 use Rattle.ostore_object_ops.proofs.NewFacts.{same_free}
-use Rattle.ostore_page_service.specs.History.{Follows as FollowsOn, Leads, InOrder, IsReached}
+use Rattle.ostore_page_service.specs.History.{Follows as FollowsOn, Leads, InOrder}
 use Rattle.ostore_page_service.proofs.HistoryLaws.{from_filter}
 use Rattle.ostore_client_core.specs.Kinds.{Follows, graph_meaning}
-use Rattle.ostore_graph_history.specs.Space.{IsAhead, LacksPages, LawOfLackedSpace}
-use Rattle.ostore_graph_history.proofs.GrowthSums.{growth_rises, growth_adds, takes_more, takes_within}
+use Rattle.ostore_graph_history.specs.Space.{LawOfLackedSpace}
+use Rattle.ostore_graph_history.proofs.GrowthSums.{growth_rises, growth_adds, takes_more}
 use Rattle.ostore_graph_history.proofs.HistoryLaws.{client_of}
 use Rattle.ostore_graph_history.proofs.StepGrowth.{IsGrown, unchanged, transaction_grows}
-use Rattle.ostore_graph_history.proofs.Weights.{IsNamed, made_by, weight, all_weigh, commands_of}
+use Rattle.ostore_graph_history.proofs.Weights.{IsNamed, made_by, all_weigh, commands_of}
 
 -- how many commands there are, and how many declare an index
 abbrev count : List Command → ℕ
@@ -86,7 +85,7 @@ module _ (script : Script) where
         let grows : growth next.graph next.txn.commands ≤ growth_by (commands_in e) p i n =
         subst (λ (g : Graph). growth g next.txn.commands ≤ growth_by (commands_in e) p i n) (sym same)
         (growth_rises (count next.txn.commands) (maps.len graph.pairs + count next.txn.commands) (maps.len graph.indexes + declared next.txn.commands) (maps.len graph.objects + count next.txn.commands)
-            (commands_in e) p i n (omega (arith, made)) (omega (arith, made, within.pairs)) (omega (arith, told, within.indexes_in)) (omega (arith, made, within.names))) in
+        (commands_in e) p i n (omega (arith, made)) (omega (arith, made, within.pairs)) (omega (arith, told, within.indexes_in)) (omega (arith, made, within.names))) in
         record {
           last = next.after;
           stands = next.stands_after;
@@ -167,7 +166,7 @@ space_law script first n client ordinal opened list records reached txn ahead la
     let order : AllPairs (InOrder graph_meaning script) (reached.history ++ ahead_entry client ordinal ∷ []) =
     all_pairs_push (InOrder graph_meaning script) h e legal.order
     (λ k d lt same. from_filter (λ (r : Entry × ℕ). nat_eq (graph_meaning.client r.0) client) (λ (r : Entry × ℕ). r.0.ordinal < ordinal) h
-        (subst (All (λ (r : Entry × ℕ). r.0.ordinal < ordinal)) (sym reached.mine) ahead.rises) k d lt (eq-eqb (client_of (get_or h k d)) client same)) in
+    (subst (All (λ (r : Entry × ℕ). r.0.ordinal < ordinal)) (sym reached.mine) ahead.rises) k d lt (eq-eqb (client_of (get_or h k d)) client same)) in
     let commands = all_weigh count count-append script (reached.history ++ ahead_entry client ordinal ∷ []) named order in
     let indexes = all_weigh declared declared-append script (reached.history ++ ahead_entry client ordinal ∷ []) named order in
     let own_commands : commands_in script (ahead_entry client ordinal) ≡ count txn.commands = weighs script count e txn ahead.named ahead.update in

@@ -1,5 +1,5 @@
 -- How many names, pairs and indexes commands add to a graph, at most.
-use Rattle.std.proofs.Common.{◌≡◌, ℕ, ◌+◌, ◌-◌, ◌≤◌, Bool, true, false, cond, List, [], ◌∷◌, length, Option, Some, None, refl, sym, ap, subst, ◌∙◌, arith}
+use Rattle.std.proofs.Common.{◌≡◌, ℕ, ◌+◌, ◌-◌, ◌≤◌, Bool, true, false, cond, List, [], ◌∷◌, length, Option, Some, None, refl, ap, subst, ◌∙◌, arith}
 use Rattle.std.specs.Prelude.{filter, not}
 use Rattle.std.specs.FinMap as maps
 use Rattle.std.specs.Cmp.{IsTotalOrder}
@@ -21,7 +21,7 @@ use Rattle.ostore_graph_model.specs.Deeds.Indexes.{index_on, path_at}
 use Rattle.ostore_graph_model.specs.Links.{same_name, pair_at, joins_from, is_displaced, goes_with}
 use Rattle.ostore_graph_model.specs.Sets as sets
 use Rattle.ostore_graph_model.specs.Step.{Task, line_of, member_gives, task_gives, refusal_of, step}
-use Rattle.ostore_graph_model.specs.Transaction.{Ran, run_from, Runs, transaction}
+use Rattle.ostore_graph_model.specs.Transaction.{Ran, run_from, Runs}
 use Rattle.ostore_graph_model.proofs.Computing.{entries-retain_keys}
 use Rattle.ostore_graph_model.proofs.OrderLaws.{name_cmp-IsTotalOrder, name_cmp-IsAntisymmetric, pair_cmp-IsTotalOrder, pair_cmp-IsAntisymmetric, index_cmp-IsTotalOrder, index_cmp-IsAntisymmetric}
 

@@ -1,5 +1,5 @@
 -- What the entries of a history count for, together, is no more than what all updates of the script count for.
-use Rattle.std.proofs.Common.{◌≡◌, ◌≢◌, ℕ, zero, suc, ◌+◌, ◌-◌, ◌<◌, ◌≤◌, Bool, true, false, List, [], ◌∷◌, ◌++◌, length, get_or, Option, Some, None, refl, sym, ap, subst, ◌∙◌, arith}
+use Rattle.std.proofs.Common.{◌≡◌, ◌≢◌, ℕ, zero, suc, ◌+◌, ◌-◌, ◌<◌, ◌≤◌, Bool, List, [], ◌∷◌, ◌++◌, length, get_or, Option, Some, None, refl, sym, ap, subst, ◌∙◌, arith}
 use Rattle.std.proofs.Common.{⊎_elim}
 use Rattle.std.specs.Prelude.{All, AllPairs, filter, flat_map, option_and_then, ◌==◌, if◌then◌else◌}
 use Rattle.std.specs.List.{slice_get, sum_by}
@@ -74,18 +74,18 @@ module _ (count : List Command → ℕ) (adds : (xs ys : List Command) → count
       let all = adds (update_commands txn) (flat_map update_commands txns) in
       ⊎_elim
       (λ (here : e.0.ordinal ≡ o + 1).
-          let place : e.0.ordinal - (o + 1) ≡ 0 = omega (arith, here) in
-          let is : txn ≡ first.0 = same_Some txn first.0 (subst (λ (n : ℕ). slice_get (txn ∷ txns) n ≡ Some first.0) place first.1) in
-          let own : weight e ≡ count (update_commands txn) = first.2 ∙ ap (λ (t : Txn). count (update_commands t)) (sym is) in
-          let above : All (λ x. o + 1 < x.0.ordinal) es = λ i d lt. omega (arith, here, head i d lt) in
-          let rest = ascending txns (o + 1) es (pairs-tail Ascend e es pairs) above
-          (λ i d lt. behind_first txn txns o (get_or es i d) (above i d lt) (All-tail (IsAmong (txn ∷ txns) o) e es among i d lt)) in
-          omega (arith, sum_by-cons weight e es, own, rest, all))
+      let place : e.0.ordinal - (o + 1) ≡ 0 = omega (arith, here) in
+      let is : txn ≡ first.0 = same_Some txn first.0 (subst (λ (n : ℕ). slice_get (txn ∷ txns) n ≡ Some first.0) place first.1) in
+      let own : weight e ≡ count (update_commands txn) = first.2 ∙ ap (λ (t : Txn). count (update_commands t)) (sym is) in
+      let above : All (λ x. o + 1 < x.0.ordinal) es = λ i d lt. omega (arith, here, head i d lt) in
+      let rest = ascending txns (o + 1) es (pairs-tail Ascend e es pairs) above
+      (λ i d lt. behind_first txn txns o (get_or es i d) (above i d lt) (All-tail (IsAmong (txn ∷ txns) o) e es among i d lt)) in
+      omega (arith, sum_by-cons weight e es, own, rest, all))
       (λ (apart : e.0.ordinal ≢ o + 1).
-          let above = all_above o e es (All-head (λ x. o < x.0.ordinal) e es low) apart head in
-          let rest = ascending txns (o + 1) (e ∷ es) pairs above
-          (λ i d lt. behind_first txn txns o (get_or (e ∷ es) i d) (above i d lt) (among i d lt)) in
-          omega (arith, rest, all))
+      let above = all_above o e es (All-head (λ x. o < x.0.ordinal) e es low) apart head in
+      let rest = ascending txns (o + 1) (e ∷ es) pairs above
+      (λ i d lt. behind_first txn txns o (get_or (e ∷ es) i d) (above i d lt) (among i d lt)) in
+      omega (arith, rest, all))
       (cases_eq e.0.ordinal (o + 1))
     where
       higher : (n o : ℕ) → o < n → n ≢ o + 1 → o + 1 < n
@@ -133,17 +133,17 @@ module _ (count : List Command → ℕ) (adds : (xs ys : List Command) → count
       let first : sum_by weight (filter (is_at client_of c) h) ≤ count (flat_map update_commands txns) =
       subst (λ (n : ℕ). sum_by weight (filter (is_at client_of n) h) ≤ count (flat_map update_commands txns)) here (each 0 txns refl) in
       let rest = by_clients h (c + 1) others (λ j more there.
-          let next : c + suc j ≡ c + 1 + j = omega arith in
-          subst (λ (n : ℕ). sum_by weight (filter (is_at client_of n) h) ≤ count (flat_map update_commands more)) next (each (suc j) more there)) in
+      let next : c + suc j ≡ c + 1 + j = omega arith in
+      subst (λ (n : ℕ). sum_by weight (filter (is_at client_of n) h) ≤ count (flat_map update_commands more)) next (each (suc j) more there)) in
       omega (arith, first, rest, sum_by-append weight (filter (is_at client_of c) h) (groups client_of (c + 1) (length others) h), adds (flat_map update_commands txns) (flat_map (flat_map update_commands) others))
 
   pub all_weigh : (h : List (Entry × ℕ)) → All (IsNamed script) h → AllPairs (InOrder graph_meaning script) h → sum_by weight h ≤ count (flat_map (flat_map update_commands) script.clients)
   all_weigh h named order =
       let below : All (λ e. client_of e < length script.clients) h = λ i d lt.
-          let is = named i d lt in
-          named_client script (client_of (get_or h i d)) (get_or h i d).0.ordinal is.txn is.named in
+      let is = named i d lt in
+      named_client script (client_of (get_or h i d)) (get_or h i d).0.ordinal is.txn is.named in
       let moved = sum_by-IsPermutation weight h (groups client_of 0 (length script.clients) h) (grouped client_of (length script.clients) h below) in
       let all = by_clients h 0 script.clients (λ j txns there.
-          let here : j ≡ 0 + j = omega arith in
-          subst (λ (n : ℕ). sum_by weight (filter (is_at client_of n) h) ≤ count (flat_map update_commands txns)) here (one_client h named order j txns there)) in
+      let here : j ≡ 0 + j = omega arith in
+      subst (λ (n : ℕ). sum_by weight (filter (is_at client_of n) h) ≤ count (flat_map update_commands txns)) here (one_client h named order j txns there)) in
       omega (arith, moved, all)
