@@ -6,3 +6,4 @@ pub mod NameLaws
 pub mod LineLaws
 pub mod ExecuteLaws
 pub mod StartLaws
+pub mod EndLaws
