@@ -1,5 +1,6 @@
 -- What a run gives.
-use Rattle.std.proofs.Common.{◌≡◌, ◌<◌, ◌≤◌, ◌-◌, ◌^◌, ℕ, Bool, true, false, cond, min, List, [], length, map, Some, refl, sym, ap, subst, ◌∙◌, arith}
+use Rattle.std.proofs.Common.{◌≡◌, ◌<◌, ◌≤◌, ◌-◌, ◌^◌, ℕ, Bool, true, false, cond, min, List, [], length, map, Option, Some, Result, Ok, Err, refl, sym, ap, subst, ◌∙◌, arith}
+use Rattle.std.specs.Prelude.{IfOk}
 use Rattle.std.specs.List.{slice_get, sum, sum_by}
 use Rattle.std.proofs.lemmas.Bool.{lt-ltb}
 use Rattle.std.proofs.lemmas.List.{length-map}
@@ -8,8 +9,11 @@ use Rattle.std.proofs.lemmas.Option.{slice_get_within}
 use Rattle.ostore_base.specs.Limits.{most_clients}
 use Rattle.ostore_base.specs.declared.page.PageImage.{PageImage}
 use Rattle.ostore_schema_layout.specs.declared.schema.Schema.{Schema}
+use Rattle.ostore_page_service.specs.declared.kind.Kind as kind
+use Rattle.ostore_page_service.specs.declared.server.SeqServer.{SeqServer}
 use Rattle.ostore_page_service.specs.History.{IsServed}
 use Rattle.ostore_page_service.specs.Told.{Told}
+use Rattle.ostore_graph_model.specs.declared.commands.Script.{Script}
 use Rattle.ostore_graph_model.specs.declared.history.Entry.{Entry}
 use Rattle.ostore_job_text.specs.declared.job.Job.{Job}
 use Rattle.ostore_job_text.specs.declared.job.JobClient.{JobClient}
@@ -24,8 +28,9 @@ use Rattle.ostore_graph_history.specs.Histories.{AreResultsOf, LawOfCommittedHis
 use Rattle.ostore_client_turns.specs.declared.run.Run.{Run}
 use Rattle.ostore_client_turns.specs.declared.seat.Seat.{Seat}
 use Rattle.ostore_client_turns.specs.Runs.{AreFetches, IsRunOf, IsTailOf, bounds_of, first_moment, script_of}
+use Rattle.ostore_client_turns.specs.inside.AtServer.{IsReadyAt}
 use Rattle.ostore_client_turns.specs.inside.Seats.{fetches_in}
-use Rattle.ostore_client_turns.specs.inside.Stores.{recorded}
+use Rattle.ostore_client_turns.specs.inside.Stores.{SeatView, recorded}
 
 is_false : (b : Bool) → (b ≡ true → ⊥) → b ≡ false
 is_false true not = absurd (not refl)
@@ -68,3 +73,10 @@ module _ (law : LawOfCommittedHistories) (records_law : ResultsAreRecords) (sche
         number = history.1;
         tail = tail_of;
       }
+
+-- ready, for the schema and the job as they were
+pub ready_alone : {K D T E : Type 0} {g : kind.Ghosts K Entry Script} (disk_faults : D → ℕ) (server : SeqServer K D Entry Script g) (seats : ℕ → Option SeatView) (count : ℕ) (result : Result T E) (schema its_schema : Schema)
+    (job its_job : Job) → its_schema ≡ schema → its_job ≡ job → IfOk result (λ done. IsReadyAt disk_faults server its_schema its_job seats × (count ≡ length its_job.clients)) → IfOk result (λ done. IsReadyAt disk_faults server schema job seats)
+ready_alone disk_faults server seats count (Ok done) schema its_schema job its_job schemas jobs ready =
+    subst (λ (s : Schema). IsReadyAt disk_faults server s job seats) schemas (subst (λ (j : Job). IsReadyAt disk_faults server its_schema j seats) jobs ready.0)
+ready_alone disk_faults server seats count (Err fault) schema its_schema job its_job schemas jobs ready = tt

@@ -57,6 +57,7 @@ pub fn run_turns<'a, D: Disk, M: Mapper>(
         server,
         schema,
         job,
+        mapper,
         seats,
     };
     let ran = store.take_all_turns()?;

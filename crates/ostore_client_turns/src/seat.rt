@@ -95,6 +95,7 @@ pub(crate) fn seats_of<'a, D: Disk, M: Mapper>(
     requires empty { (client : ℕ) → IsEmpty (side_of server.old client) }
     ensures seats { IfOk result (λ seats. AreAllFreshAt D.faults server.old schema.now
         job.now.clients (seats_in seats.items)) }
+    ensures long { IfOk result (λ seats. length seats.items ≡ length job.now.clients) }
     ensures same { server.new ≡ server.old }
 {
     let mut seats = Vec::new(alloc);

@@ -19,6 +19,8 @@ pub(crate) struct Store<'s, 'a, D, M: Mapper> {
     pub(crate) server: &'s mut SeqServer<GraphKind, D>,
     pub(crate) schema: &'a Schema,
     pub(crate) job: &'a Job,
+    /// Chooses the frames of all clients.
+    pub(crate) mapper: &'a M,
     pub(crate) seats: Vec<Seat<'a, M>>,
 }
 

@@ -30,3 +30,9 @@ pub returns-clause-seats : goal.returns-clause-seats
 returns-clause-seats g c = all_fresh g.D.Disk.faults c.args.server.now c.args.schema.now c.args.job.now.clients c.loop-number.seats.items
     (subst (λ (n : ℕ). AreFreshUpTo g.D.Disk.faults c.args.server.now c.args.schema.now c.args.job.now.clients n c.loop-number.seats.items)
     (let same = ap length c.items-client-items.ensures in let e : c.loop-number.number ≡ length c.args.job.now.clients = omega arith in e) c.loop-number.invariant.fresh)
+
+pub returns-clause-long : goal.returns-clause-long
+returns-clause-long g c =
+    let same = ap length c.items-client-items.ensures in
+    let all = c.loop-number.invariant.fresh.long in
+    omega arith
