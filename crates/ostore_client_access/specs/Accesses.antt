@@ -1,5 +1,5 @@
 -- A client and its service as a holder of pages: what it stands for, and what its calls do.
-use Rattle.std.specs.Prelude.{◌≡◌, ℕ, ◌++◌, List, [], ◌∷◌, length, IsSome}
+use Rattle.std.specs.Prelude.{◌≡◌, ◌⊎◌, ℕ, ◌<◌, ◌++◌, Bool, true, false, ◌&&◌, List, [], ◌∷◌, length, IsSome}
 use Rattle.std.specs.Option.{option_map}
 use Rattle.std.specs.Borrow.{GName}
 use Rattle.ostore_base.specs.Faults.{Rose}
@@ -10,15 +10,16 @@ use Rattle.ostore_page_tags.specs.PageLists.{with_bytes}
 use Rattle.ostore_address_space.specs.Frames.{KeepsFrames, frame_of}
 use Rattle.ostore_segments.specs.Holdings.{PagesTold, PagesHeld}
 use Rattle.ostore_segments.specs.SchemaCells.{size_told}
-use Rattle.ostore_page_service.specs.Told.{Told, SameRecords, StillServes, NoBusy}
+use Rattle.ostore_page_service.specs.Told.{Told, SameRecords, StillServes, NoBusy, OwnedByAnother, UsedByAnother}
 use Rattle.ostore_graph_model.specs.declared.commands.Script.{Script}
 use Rattle.ostore_graph_model.specs.declared.history.Entry.{Entry}
+use Rattle.ostore_client_cache.specs.Entries.{is_owned}
 use Rattle.ostore_client_cache.specs.Caches.{used_pages}
 use Rattle.ostore_client_core.specs.declared.fault.AttemptFault.{AttemptFault}
 use Rattle.ostore_client_core.specs.declared.fault.AttemptFault.TheVariants.{Busy, NoSpace, CacheFull, SpaceFull, Commit, OutOfMemory}
-use Rattle.ostore_client_core.specs.Clients.{ClientView, is_page_used, IsOwn}
+use Rattle.ostore_client_core.specs.Clients.{ClientView, entry_of, is_page_used, IsOwn}
 use Rattle.ostore_client_core.specs.Attempts.{Attempts, MayBe, home_of}
-use Rattle.ostore_client_core.specs.Calls.{LacksFrames}
+use Rattle.ostore_client_core.specs.Calls.{SameClient, OwnsNoMore, LacksFrames}
 
 -- ---- what it stands for
 
@@ -27,12 +28,12 @@ pub record InView (client : ClientView) (page : ℕ) : Type 0 where
   pub used : is_page_used client page
   pub framed : IsSome (frame_of client.frames.pages page)
 
--- the cells are the schema's, and pages may be changed where the service's client may write
-abbrev pub access_told : Told Entry → ClientView → List GName → PagesTold
-access_told told client behind = record {
+-- the cells are the schema's, and pages may be changed where the attempt updates and the service's client may write
+abbrev pub access_told : Bool → Told Entry → ClientView → List GName → PagesTold
+access_told updates told client behind = record {
   sizes = size_told client.schema;
   pointers = pointers_of client.schema;
-  may_edit = told.may_write;
+  may_edit = updates && told.may_write;
   behind = behind;
 }
 
@@ -58,31 +59,47 @@ pub record Edits (serves later : Script → Type 0) (told now : Told Entry) (old
   pub frames : KeepsFrames old.frames.pages new.frames.pages
   pub views : (page : ℕ) → is_page_used old page → is_page_used new page
 
--- after calls that were Ok: the service met no other client, and has the records that it had
-pub record Passes (serves later : Script → Type 0) (told now : Told Entry) (old new : ClientView) : Type 0 where
+-- the attempt owns no page
+abbrev pub OwnsNothing : ClientView → Type 0
+OwnsNothing client = (page : ℕ) → is_owned (entry_of client page) ≡ false
+
+-- After calls that were Ok: the service met no other client, and has the records that it had. An attempt that only reads
+-- owns no page that it didn't own.
+pub record Passes (updates : Bool) (serves later : Script → Type 0) (told now : Told Entry) (old new : ClientView)
+    : Type 0 where
   pub same : SameRecords told now
   pub served : StillServes serves later
   pub calm : NoBusy told now
-  pub schema : new.schema ≡ old.schema
+  pub client : SameClient old new
+  pub owned : updates ≡ false → OwnsNoMore old new
 
--- Why a call failed. Busy was answered by the service, once; else no Busy came.
-abbrev pub Causes : AttemptFault → Told Entry → Told Entry → ClientView → Type 0
-Causes (Busy busy) told now client =
+-- another client is at the page: it owns it, or it uses it where the attempt updates
+abbrev pub MeetsAnother : Bool → Told Entry → ℕ → Type 0
+MeetsAnother updates told page = OwnedByAnother told page ⊎ ((updates ≡ true) × UsedByAnother told page)
+
+-- Why a call failed. Busy was answered by the service, once, for another client is at the page that it names; else no
+-- Busy came. The cache and the frames were full only where they are fewer than the pages of the database.
+abbrev pub Causes : Bool → AttemptFault → Told Entry → Told Entry → ClientView → Type 0
+Causes updates (Busy busy) told now client =
     Rose told.busy now.busy × (now.busies ≡ option_map (λ earlier. earlier ++ busy ∷ []) told.busies)
-Causes (CacheFull used capacity) told now client =
+    × MeetsAnother updates told busy.page.0
+Causes updates (CacheFull used capacity) told now client =
     NoBusy told now × (used ≡ length (used_pages client.pages)) × (capacity ≡ client.most) × (used ≡ capacity)
-Causes (SpaceFull frames) told now client =
+    × (capacity < length told.opened)
+Causes updates (SpaceFull frames) told now client =
     NoBusy told now × ((old : ClientView) × (page : PageNo) × LacksFrames old client page frames now.mine)
-Causes OutOfMemory told now client = NoBusy told now
-Causes (NoSpace segment need) told now client = ⊥
-Causes (Commit fault) told now client = ⊥
+    × (frames ≡ length client.frames.pages) × (frames < length told.opened)
+Causes updates OutOfMemory told now client = NoBusy told now
+Causes updates (NoSpace segment need) told now client = ⊥
+Causes updates (Commit fault) told now client = ⊥
 
--- after a call that failed, where those before it were Ok: the service is still the client's own, so that the attempt
--- can be aborted
-pub record Fails (fault : AttemptFault) (serves later : Script → Type 0) (told now : Told Entry) (old new : ClientView)
-    : Type 0 where
+-- After a call that failed, where those before it were Ok: the service is still the client's own, so that the attempt
+-- can be aborted.
+pub record Fails (updates : Bool) (fault : AttemptFault) (serves later : Script → Type 0) (told now : Told Entry)
+    (old new : ClientView) : Type 0 where
   pub own : IsOwn later now new
   pub same : SameRecords told now
   pub served : StillServes serves later
-  pub schema : new.schema ≡ old.schema
-  pub cause : Causes fault told now new
+  pub client : SameClient old new
+  pub owned : updates ≡ false → OwnsNoMore old new
+  pub cause : Causes updates fault told now new

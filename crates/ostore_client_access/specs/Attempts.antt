@@ -1,5 +1,5 @@
--- A transaction whose commands an attempt has executed.
-use Rattle.std.specs.Prelude.{◌≡◌, ◌<◌, ℕ, List, All}
+-- A transaction whose commands an attempt executes.
+use Rattle.std.specs.Prelude.{◌≡◌, ◌<◌, ℕ, false, List, [], ◌∷◌, ◌++◌, All}
 use Rattle.ostore_base.specs.declared.page.PageImage.{PageImage}
 use Rattle.ostore_page_service.specs.Told.{Told}
 use Rattle.ostore_graph_model.specs.declared.values.Reply.{Reply}
@@ -8,16 +8,43 @@ use Rattle.ostore_graph_model.specs.declared.commands.Txn.{Txn}
 use Rattle.ostore_graph_model.specs.declared.history.Entry.{Entry}
 use Rattle.ostore_client_core.specs.Kinds.{Names}
 use Rattle.ostore_client_core.specs.Clients.{ClientView}
-use Rattle.ostore_client_core.specs.Attempts.{Attempts, MayBe}
-use Rattle.ostore_object_ops.specs.Lines.{Transacts}
+use Rattle.ostore_client_core.specs.Attempts.{IsBase, Attempts, MayBe}
+use Rattle.ostore_client_core.specs.Commits.{FitsFor}
+use Rattle.ostore_object_ops.specs.declared.progress.Progress.{Progress}
+use Rattle.ostore_object_ops.specs.Progresses.{replies_of, leads_by}
+use Rattle.ostore_object_ops.specs.Lines.{HasRun, Transacts, LacksGrowth}
+use Rattle.ostore_client_access.specs.Accesses.{access_held, OwnsNothing}
+
+-- ---- lines
+
+-- The lines that have a reply have run on whatever list the attempt may have begun on, and have made of it what the
+-- attempt has made. Where the transaction only reads, the attempt owns no page.
+pub record HasRunLines (serves : Script → Type 0) (told : Told Entry) (client : ClientView) (txn : Txn)
+    (progress : Progress) : Type 0 where
+  pub runs : Attempts serves told client
+  pub ran : (base list : List PageImage) → MayBe serves told client base list
+      → HasRun client.schema txn (replies_of progress) (leads_by (access_held serves told client) progress) base list
+  pub reads : txn.update ≡ false → OwnsNothing client
+
+-- there is one reply more, the last one
+abbrev pub AddsReply : List Reply → List Reply → Type 0
+AddsReply replies more = (reply : Reply) × (more ≡ replies ++ reply ∷ [])
+
+-- on each list on which the attempt may have begun, fewer pages were free than the transaction may take
+pub record LacksOnEach (serves : Script → Type 0) (told : Told Entry) (client : ClientView) (txn : Txn) : Type 0 where
+  pub runs : Attempts serves told client
+  pub lacks : (base : List PageImage) → IsBase client.schema told base → LacksGrowth txn base
+
+-- ---- all lines
 
 -- The replies are the transaction's, whatever list the attempt may have begun on, and what it has made of that list is
--- what the transaction leaves.
-pub record HasMade (serves : Script → Type 0) (told : Told Entry) (client : ClientView) (txn : Txn) (replies : List Reply)
-    : Type 0 where
+-- what the transaction leaves. Where the transaction only reads, the attempt owns no page.
+pub record HasMade (serves : Script → Type 0) (told : Told Entry) (client : ClientView) (txn : Txn)
+    (replies : List Reply) : Type 0 where
   pub runs : Attempts serves told client
   pub made : (base list : List PageImage) → MayBe serves told client base list
       → Transacts client.schema txn replies base list
+  pub reads : txn.update ≡ false → OwnsNothing client
 
 -- an entry of the client's that names the transaction in a script that is served, with a later ordinal than all before it
 pub record IsEntryOf (serves : Script → Type 0) (told : Told Entry) (client : ClientView) (txn : Txn) (entry : Entry)
@@ -28,3 +55,9 @@ pub record IsEntryOf (serves : Script → Type 0) (told : Told Entry) (client : 
   pub names : Names script entry txn
   pub mine : entry.client.0 ≡ told.client
   pub rises : All (λ (earlier : Entry × ℕ). earlier.0.ordinal < entry.ordinal) told.mine.records
+
+-- the entry fits for every script that is served, with the client's schema, in which it names the transaction
+abbrev pub FitsNamed : (Script → Type 0) → Told Entry → ClientView → Txn → Entry → Type 0
+FitsNamed serves told client txn entry =
+    (script : Script) → serves script → script.schema ≡ client.schema → Names script entry txn
+    → FitsFor serves told client script entry

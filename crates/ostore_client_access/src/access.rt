@@ -10,30 +10,34 @@ use ostore_segments::{CellPages, Pages, root_row};
 
 /// A client in an attempt, with its service: the holder of pages on which commands are executed. It stands for the lists
 /// on which the attempt may have begun, each paired with what the attempt has made of it. A page that is entered comes
-/// into use, and one that is edited is owned before. After a fault the attempt can only be aborted.
+/// into use, and one that is edited is owned before. Only an attempt that updates may edit. After a fault the attempt
+/// can only be aborted.
 #[derive(Drop)]
 pub struct Access<'c, 'a, M: Mapper, S> {
     pub client: &'c mut Client<'a, M>,
     pub service: &'c mut S,
+    pub updates: bool,
 }
 
 impl<'c, 'a, M: Mapper, S: PageService<GraphKind>> Pages for Access<'c, 'a, M, S> {
     ghost use Rattle.std.specs.Prelude.{[], ◌∷◌};
-    ghost use Rattle.ostore_client_access.specs.Accesses.{access_told, access_held, Passes, Fails};
-    ghost use Rattle.ostore_client_access.specs.inside.Passing.{passes_refl, passes_then, fails_then};
+    ghost use Rattle.ostore_client_access.specs.Accesses.{access_told, access_held};
+    ghost use Rattle.ostore_client_access.specs.inside.Passing.{HasPassed, HasFailed, passed_refl, passed_then, failed_then};
 
     type Fault = AttemptFault;
 
-    ghost told = { λ a. access_told (S.tells a.service.now) a.client.now
+    ghost told = { λ a. access_told a.updates (S.tells a.service.now) a.client.now
         (a.client.ghost_name ∷ a.service.ghost_name ∷ []) };
 
     ghost held = { λ a. access_held (S.serves a.service.now) (S.tells a.service.now) a.client.now };
 
-    ghost passes = { λ a b. Passes (S.serves a.service.now) (S.serves b.service.now)
-        (S.tells a.service.now) (S.tells b.service.now) a.client.now b.client.now };
+    ghost passes = { λ a b. HasPassed a.updates b.updates (S.serves a.service.now)
+        (S.serves b.service.now) (S.tells a.service.now) (S.tells b.service.now)
+        a.client.now b.client.now };
 
-    ghost fails = { λ a fault b. Fails fault (S.serves a.service.now) (S.serves b.service.now)
-        (S.tells a.service.now) (S.tells b.service.now) a.client.now b.client.now };
+    ghost fails = { λ a fault b. HasFailed a.updates b.updates fault (S.serves a.service.now)
+        (S.serves b.service.now) (S.tells a.service.now) (S.tells b.service.now)
+        a.client.now b.client.now };
 
     fn enter(&mut self, page: PageNo) -> Result<(), AttemptFault> {
         match enter_page(self.client, self.service, page) {
@@ -66,17 +70,17 @@ impl<'c, 'a, M: Mapper, S: PageService<GraphKind>> Pages for Access<'c, 'a, M, S
         put(self.client, self.service, PageNo(ROOTS_PAGE), at, &row)
     }
 
-    ghost passes_at_once = { λ a. passes_refl (S.serves a.service.now) (S.tells a.service.now)
-        a.client.now };
+    ghost passes_at_once = { λ a. passed_refl a.updates (S.serves a.service.now)
+        (S.tells a.service.now) a.client.now };
 
-    ghost passes_on = { λ a b c first second. passes_then (S.serves a.service.now)
-        (S.serves b.service.now) (S.serves c.service.now) (S.tells a.service.now)
-        (S.tells b.service.now) (S.tells c.service.now)
+    ghost passes_on = { λ a b c first second. passed_then a.updates b.updates c.updates
+        (S.serves a.service.now) (S.serves b.service.now) (S.serves c.service.now)
+        (S.tells a.service.now) (S.tells b.service.now) (S.tells c.service.now)
         a.client.now b.client.now c.client.now first second };
 
-    ghost fails_later = { λ a b c fault passed failed. fails_then (S.serves a.service.now)
-        (S.serves b.service.now) (S.serves c.service.now) (S.tells a.service.now)
-        (S.tells b.service.now) (S.tells c.service.now)
+    ghost fails_later = { λ a b c fault passed failed. failed_then a.updates b.updates c.updates
+        (S.serves a.service.now) (S.serves b.service.now) (S.serves c.service.now)
+        (S.tells a.service.now) (S.tells b.service.now) (S.tells c.service.now)
         a.client.now b.client.now c.client.now fault passed failed };
 }
 

@@ -4,14 +4,13 @@ ghost use Rattle.std.specs.Prelude.{◌≡◌, true, IfOk, IfErr, OnOk};
 ghost use Rattle.std.specs.List.{AllByRecursion};
 ghost use Rattle.ostore_schema_layout.specs.Lawful.{IsLawful};
 ghost use Rattle.ostore_client_core.specs.Clients.{IsIdle, IsOwn};
+ghost use Rattle.ostore_client_core.specs.Calls.{SameClient};
 ghost use Rattle.ostore_client_core.specs.Attempts.{Attempts};
 ghost use Rattle.ostore_object_ops.specs.Suits.{IsOfInts, IsBuilt};
-ghost use Rattle.ostore_segments.specs.Holdings.{Becomes};
 ghost use Rattle.ostore_object_ops.specs.Stops.{Stopped, IfNoSpace};
-ghost use Rattle.ostore_object_ops.specs.Lines.{LacksGrowth};
-ghost use Rattle.ostore_client_access.specs.Accesses.{access_held, Passes, Fails};
+ghost use Rattle.ostore_client_access.specs.Accesses.{Passes, Fails};
 ghost use Rattle.ostore_client_core.specs.Commits.{FitsClient};
-ghost use Rattle.ostore_client_access.specs.Attempts.{HasMade, IsEntryOf};
+ghost use Rattle.ostore_client_access.specs.Attempts.{HasMade, IsEntryOf, FitsNamed, LacksOnEach};
 
 use crate::access::Access;
 use ostore_address_space::Mapper;
@@ -29,6 +28,7 @@ pub fn execute_on<M: Mapper, S: PageService<GraphKind>>(
     schema: &Schema,
     txn: &Txn,
 ) -> Result<Replies, Stop<AttemptFault>>
+    requires kind { access.old.updates ≡ txn.now.update }
     requires runs { Attempts (S.serves access.old.service.now) (S.tells access.old.service.now)
         access.old.client.now }
     requires idle { IsIdle access.old.client.now }
@@ -39,26 +39,23 @@ pub fn execute_on<M: Mapper, S: PageService<GraphKind>>(
     requires built { AllByRecursion IsBuilt txn.now.commands }
     ensures made { IfOk result (HasMade (S.serves access.new.service.now)
         (S.tells access.new.service.now) access.new.client.now txn.now) }
-    ensures passes { OnOk result (Passes (S.serves access.old.service.now)
+    ensures passes { OnOk result (Passes txn.now.update (S.serves access.old.service.now)
         (S.serves access.new.service.now) (S.tells access.old.service.now)
         (S.tells access.new.service.now) access.old.client.now access.new.client.now) }
     ensures own { IsOwn (S.serves access.new.service.now) (S.tells access.new.service.now)
         access.new.client.now }
-    ensures stops { IfErr result (λ stop. Stopped stop
-        (λ fault. Fails fault (S.serves access.old.service.now) (S.serves access.new.service.now)
+    ensures stops { IfErr result (λ stop. Stopped stop (λ fault. Fails txn.now.update fault
+        (S.serves access.old.service.now) (S.serves access.new.service.now)
         (S.tells access.old.service.now) (S.tells access.new.service.now)
         access.old.client.now access.new.client.now)
-        (Passes (S.serves access.old.service.now) (S.serves access.new.service.now)
-        (S.tells access.old.service.now) (S.tells access.new.service.now)
-        access.old.client.now access.new.client.now)) }
-    ensures space { IfErr result (IfNoSpace (λ no. Becomes
-        (access_held (S.serves access.old.service.now) (S.tells access.old.service.now)
-        access.old.client.now)
-        (access_held (S.serves access.new.service.now) (S.tells access.new.service.now)
-        access.new.client.now) (λ old new. LacksGrowth txn.now old))) }
-    ensures client { access.new.client.ghost_name ≡ access.old.client.ghost_name }
+        (Passes txn.now.update (S.serves access.old.service.now)
+        (S.serves access.new.service.now) (S.tells access.old.service.now)
+        (S.tells access.new.service.now) access.old.client.now access.new.client.now)) }
+    ensures space { IfErr result (IfNoSpace (λ no. LacksOnEach (S.serves access.new.service.now)
+        (S.tells access.new.service.now) access.new.client.now txn.now)) }
+    ensures names { access.new.client.ghost_name ≡ access.old.client.ghost_name }
     ensures service { access.new.service.ghost_name ≡ access.old.service.ghost_name }
-    ensures schema { access.new.client.now.schema ≡ access.old.client.now.schema }
+    ensures client { SameClient access.old.client.now access.new.client.now }
 {
     run_transaction(alloc, access, schema, txn)
 }
@@ -82,25 +79,27 @@ pub fn execute<M: Mapper, S: PageService<GraphKind>>(
     requires built { AllByRecursion IsBuilt txn.now.commands }
     ensures made { IfOk result (HasMade (S.serves service.new) (S.tells service.new) client.new
         txn.now) }
-    ensures passes { OnOk result (Passes (S.serves service.old) (S.serves service.new)
-        (S.tells service.old) (S.tells service.new) client.old client.new) }
+    ensures passes { OnOk result (Passes txn.now.update (S.serves service.old)
+        (S.serves service.new) (S.tells service.old) (S.tells service.new) client.old client.new) }
     ensures own { IsOwn (S.serves service.new) (S.tells service.new) client.new }
-    ensures stops { IfErr result (λ stop. Stopped stop
-        (λ fault. Fails fault (S.serves service.old) (S.serves service.new)
-        (S.tells service.old) (S.tells service.new) client.old client.new)
-        (Passes (S.serves service.old) (S.serves service.new)
+    ensures stops { IfErr result (λ stop. Stopped stop (λ fault. Fails txn.now.update fault
+        (S.serves service.old) (S.serves service.new) (S.tells service.old)
+        (S.tells service.new) client.old client.new)
+        (Passes txn.now.update (S.serves service.old) (S.serves service.new)
         (S.tells service.old) (S.tells service.new) client.old client.new)) }
-    ensures space { IfErr result (IfNoSpace (λ no. Becomes
-        (access_held (S.serves service.old) (S.tells service.old) client.old)
-        (access_held (S.serves service.new) (S.tells service.new) client.new)
-        (λ old new. LacksGrowth txn.now old))) }
-    ensures schema { client.new.schema ≡ client.old.schema }
+    ensures space { IfErr result (IfNoSpace (λ no. LacksOnEach (S.serves service.new)
+        (S.tells service.new) client.new txn.now)) }
+    ensures client { SameClient client.old client.new }
 {
-    let mut access = Access { client, service };
+    let mut access = Access {
+        client,
+        service,
+        updates: txn.update,
+    };
     execute_on(alloc, &mut access, schema, txn)
 }
 
-/// A law: the entry of an update fits, where its replies are those of the commands that the attempt has executed.
+/// A law: the entry of a transaction fits, where its replies are those of the commands that the attempt has executed.
 pub fn made_fits<M: Mapper, S: PageClaims<GraphKind>>(
     client: &Client<'_, M>,
     service: &S,
@@ -111,6 +110,7 @@ pub fn made_fits<M: Mapper, S: PageClaims<GraphKind>>(
         entry.now.replies }
     requires entry { IsEntryOf (S.serves service.now) (S.tells service.now) client.now txn.now
         entry.now }
-    requires update { entry.now.update ≡ true }
-    ensures { FitsClient (S.serves service.now) (S.tells service.now) client.now entry.now }
+    ensures fits { FitsClient (S.serves service.now) (S.tells service.now) client.now entry.now }
+    ensures named { FitsNamed (S.serves service.now) (S.tells service.now) client.now txn.now
+        entry.now }
 {}

@@ -1,11 +1,11 @@
 //! Pages that are brought into use, owned, and written.
 
-ghost use Rattle.std.specs.Prelude.{◌≡◌, ◌<◌, ◌≤◌, ◌+◌, true, length, IfOk, IfErr, OnOk};
+ghost use Rattle.std.specs.Prelude.{◌≡◌, ◌<◌, ◌≤◌, ◌+◌, true, false, length, IfOk, IfErr, OnOk};
 ghost use Rattle.ostore_base.specs.declared.page.TheConstants.{PAGE_SIZE};
 ghost use Rattle.ostore_client_cache.specs.Entries.{is_owned};
 ghost use Rattle.ostore_client_core.specs.Clients.{entry_of, is_page_used};
 ghost use Rattle.ostore_client_core.specs.Attempts.{Attempts, Narrows};
-ghost use Rattle.ostore_client_core.specs.Calls.{IsAddressOf};
+ghost use Rattle.ostore_client_core.specs.Calls.{SameClient, IsAddressOf};
 ghost use Rattle.ostore_client_access.specs.Accesses.{Passes, Fails};
 ghost use Rattle.ostore_client_access.specs.inside.Puts.{PutsInto};
 
@@ -26,11 +26,11 @@ pub(crate) fn enter_page<M: Mapper, S: PageService<GraphKind>>(
         (S.tells service.old) (S.tells service.new) client.old client.new) }
     ensures used { OnOk result (is_page_used client.new page.0) }
     ensures address { IfOk result (IsAddressOf client.new page.0) }
-    ensures passes { OnOk result (Passes (S.serves service.old) (S.serves service.new)
+    ensures passes { OnOk result (Passes false (S.serves service.old) (S.serves service.new)
         (S.tells service.old) (S.tells service.new) client.old client.new) }
-    ensures fails { IfErr result (λ fault. Fails fault (S.serves service.old) (S.serves service.new)
-        (S.tells service.old) (S.tells service.new) client.old client.new) }
-    ensures schema { client.new.schema ≡ client.old.schema }
+    ensures fails { IfErr result (λ fault. Fails false fault (S.serves service.old)
+        (S.serves service.new) (S.tells service.old) (S.tells service.new) client.old client.new) }
+    ensures client { SameClient client.old client.new }
     ensures writer { (S.tells service.new).may_write ≡ (S.tells service.old).may_write }
 {
     client.enter(service, page)
@@ -49,11 +49,11 @@ pub(crate) fn own_page<M: Mapper, S: PageService<GraphKind>>(
         (S.tells service.old) (S.tells service.new) client.old client.new) }
     ensures owned { OnOk result (is_owned (entry_of client.new page.0) ≡ true) }
     ensures address { IfOk result (IsAddressOf client.new page.0) }
-    ensures passes { OnOk result (Passes (S.serves service.old) (S.serves service.new)
+    ensures passes { OnOk result (Passes true (S.serves service.old) (S.serves service.new)
         (S.tells service.old) (S.tells service.new) client.old client.new) }
-    ensures fails { IfErr result (λ fault. Fails fault (S.serves service.old) (S.serves service.new)
-        (S.tells service.old) (S.tells service.new) client.old client.new) }
-    ensures schema { client.new.schema ≡ client.old.schema }
+    ensures fails { IfErr result (λ fault. Fails true fault (S.serves service.old)
+        (S.serves service.new) (S.tells service.old) (S.tells service.new) client.old client.new) }
+    ensures client { SameClient client.old client.new }
     ensures writer { (S.tells service.new).may_write ≡ (S.tells service.old).may_write }
 {
     let address = match enter_page(client, service, page) {
@@ -81,11 +81,11 @@ pub(crate) fn put<M: Mapper, S: PageService<GraphKind>>(
     requires within { at + length bytes.now ≤ PAGE_SIZE }
     ensures puts { OnOk result (PutsInto (S.serves service.old) (S.serves service.new)
         (S.tells service.old) (S.tells service.new) client.old client.new page.0 at bytes.now) }
-    ensures passes { OnOk result (Passes (S.serves service.old) (S.serves service.new)
+    ensures passes { OnOk result (Passes true (S.serves service.old) (S.serves service.new)
         (S.tells service.old) (S.tells service.new) client.old client.new) }
-    ensures fails { IfErr result (λ fault. Fails fault (S.serves service.old) (S.serves service.new)
-        (S.tells service.old) (S.tells service.new) client.old client.new) }
-    ensures schema { client.new.schema ≡ client.old.schema }
+    ensures fails { IfErr result (λ fault. Fails true fault (S.serves service.old)
+        (S.serves service.new) (S.tells service.old) (S.tells service.new) client.old client.new) }
+    ensures client { SameClient client.old client.new }
     ensures writer { (S.tells service.new).may_write ≡ (S.tells service.old).may_write }
 {
     let address = match own_page(client, service, page) {

@@ -6,13 +6,14 @@ same_side : {E : Type 0} (a : Side E) → Undisturbed a a
 same_side a = record { held = λ q. refl; owned = λ q. refl; kept = λ q i h. h; droppable = λ q. refl; records = refl; room = refl }
 
 pub service_refl : {E : Type 0} (told : Told E) → SameService told told
-service_refl told = record { behind = refl; client = refl; may_write = refl; first = refl; opened = refl; tells_others = refl; others = λ d low a. same_side (told.others d) }
+service_refl told = record { behind = refl; client = refl; may_write = refl; may_fail = refl; first = refl; opened = refl; tells_others = refl; others = λ d low a. same_side (told.others d) }
 
 pub service_then : {E : Type 0} (t u v : Told E) → SameService t u → SameService u v → SameService t v
 service_then t u v one two = record {
   behind = two.behind ∙ one.behind;
   client = two.client ∙ one.client;
   may_write = two.may_write ∙ one.may_write;
+  may_fail = two.may_fail ∙ one.may_fail;
   first = two.first ∙ one.first;
   opened = two.opened ∙ one.opened;
   tells_others = two.tells_others ∙ one.tells_others;

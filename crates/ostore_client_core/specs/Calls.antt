@@ -11,7 +11,7 @@ use Rattle.ostore_schema_layout.specs.declared.schema.Schema.{Schema}
 use Rattle.ostore_relocation.specs.Fitness.{IsFit, LeadsToPages}
 use Rattle.ostore_relocation.specs.Forms.{ComesIn}
 use Rattle.ostore_relocation.specs.Reserving.{pages_wanted, reserve_all}
-use Rattle.ostore_page_service.specs.Told.{Side, Told, DropsCopy, Refuses, NoBusy, SameElsewhere}
+use Rattle.ostore_page_service.specs.Told.{Side, Told, DropsCopy, Refuses, NoBusy, SameElsewhere, OwnedByAnother, UsedByAnother}
 use Rattle.ostore_graph_model.specs.declared.history.Entry.{Entry}
 use Rattle.ostore_client_cache.specs.declared.entries.CachedPage.{CachedPage}
 use Rattle.ostore_client_cache.specs.Entries.{imaged_as, held_as, first_as, is_in_use, is_owned, used_image}
@@ -24,6 +24,17 @@ use Rattle.ostore_client_core.specs.declared.release.Ending.{Ending}
 use Rattle.ostore_client_core.specs.declared.release.Ending.TheVariants.{Committed, Aborted}
 use Rattle.ostore_client_core.specs.Cells.{HasCellsOf}
 use Rattle.ostore_client_core.specs.Clients.{ClientView, entry_of, with_pages}
+
+-- what no call changes: the schema, how many pages there may be, whose frames they are and how many
+pub record SameClient (old new : ClientView) : Type 0 where
+  pub schema : new.schema ≡ old.schema
+  pub most : new.most ≡ old.most
+  pub client : new.frames.client ≡ old.frames.client
+  pub frames : length new.frames.pages ≡ length old.frames.pages
+
+-- each page that is owned was owned before
+abbrev pub OwnsNoMore : ClientView → ClientView → Type 0
+OwnsNoMore old new = (page : ℕ) → is_owned (entry_of new page) ≡ true → is_owned (entry_of old page) ≡ true
 
 -- a count that stays at its type's end
 abbrev pub one_more : ℕ → ℕ
@@ -51,6 +62,8 @@ pub record Settles (old new : ClientView) (page : ℕ) (image : PageImage) : Typ
   pub entry : CachedPage
   pub there : entry_of old page ≡ Some entry
   pub pages : new.pages ≡ set_value (nat_eq page) old.pages (imaged_as resident entry)
+  pub choice : ℕ → ℕ → ℕ → ℕ
+  pub frames_are : new.frames ≡ (reserve_all choice old.frames (pages_wanted old.schema (record { 0 = page }) image.bytes)).frames
   pub comes : ComesIn new.frames.pages old.schema page image.bytes resident.bytes
   pub framed : IsSome (frame_of new.frames.pages page)
   pub more : KeepsFrames old.frames.pages new.frames.pages
@@ -111,9 +124,9 @@ pub record OwnsPage (old new : ClientView) (page : ℕ) : Type 0 where
   pub client : new ≡ with_pages (set_value (nat_eq page) old.pages (held_as Owned entry)) old
   pub owned : is_owned (entry_of new page) ≡ true
 
--- the fault is that another client is at the page
+-- the fault is that another client is at the page. Where the others are told, one of them uses it
 abbrev pub IsBusy : AttemptFault → Told Entry → Told Entry → ℕ → Type 0
-IsBusy (Busy busy) told now page = Refuses told now page busy
+IsBusy (Busy busy) told now page = Refuses told now page busy × UsedByAnother told page
 IsBusy (NoSpace segment need) told now page = ⊥
 IsBusy (CacheFull used capacity) told now page = ⊥
 IsBusy (SpaceFull frames) told now page = ⊥
@@ -161,11 +174,15 @@ pub record LacksFrames (old new : ClientView) (page : PageNo) (frames : ℕ) (mi
   pub fetches : new.fetches ≡ one_more old.fetches
 
 -- Why a page didn't come into use. CacheFull and want of memory come before any claim, Busy and SpaceFull after it.
+-- Where the others are told, Busy comes only where one of them owns the page. A cache, and frames, with room for all
+-- pages are never full.
 abbrev pub Refused : AttemptFault → ClientView → ClientView → PageNo → Told Entry → Told Entry → Type 0
-Refused (Busy busy) old new page told now = (new ≡ old) × Refuses told now page.0 busy
+Refused (Busy busy) old new page told now = (new ≡ old) × Refuses told now page.0 busy × OwnedByAnother told page.0
 Refused (CacheFull used capacity) old new page told now =
     (new ≡ old) × (now ≡ told) × (used ≡ length (used_pages old.pages)) × (capacity ≡ old.most) × (used ≡ capacity)
-Refused (SpaceFull frames) old new page told now = LacksFrames old new page frames now.mine × NoBusy told now
+    × (capacity < length told.opened)
+Refused (SpaceFull frames) old new page told now =
+    LacksFrames old new page frames now.mine × NoBusy told now × (frames < length told.opened)
 Refused OutOfMemory old new page told now = (new ≡ old) × (now ≡ told)
 Refused (NoSpace segment need) old new page told now = ⊥
 Refused (Commit fault) old new page told now = ⊥

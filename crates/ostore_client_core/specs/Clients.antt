@@ -2,9 +2,10 @@
 use Rattle.std.specs.Prelude.{◌≡◌, ℕ, ◌<◌, ◌≤◌, true, false, nat_eq, List, [], ◌∷◌, length, Option, Some, None, IsSome}
 use Rattle.std.specs.List.{AllByRecursion}
 use Rattle.std.specs.Map.{lookup}
+use Rattle.ostore_base.specs.declared.numbers.PageNo.{PageNo}
 use Rattle.ostore_base.specs.declared.page.PageImage.{PageImage}
 use Rattle.ostore_schema_layout.specs.declared.schema.Schema.{Schema}
-use Rattle.ostore_address_space.specs.Frames.{Frames, ArePaired, frame_of}
+use Rattle.ostore_address_space.specs.Frames.{Frames, ArePaired, frame_of, page_in}
 use Rattle.ostore_relocation.specs.Forms.{IsResidentPage, stored_form}
 use Rattle.ostore_page_service.specs.Told.{Side, Told}
 use Rattle.ostore_graph_model.specs.declared.commands.Script.{Script}
@@ -45,6 +46,14 @@ is_page_used client page = is_in_use (entry_of client page) ≡ true
 -- no page is in use
 abbrev pub IsIdle : ClientView → Type 0
 IsIdle client = (page : ℕ) → is_in_use (entry_of client page) ≡ false
+
+-- no page is in a frame
+abbrev pub AreFree : List (Option PageNo) → Type 0
+AreFree pages = (frame : ℕ) → page_in pages frame ≡ None
+
+-- each page in a frame is one of so many
+abbrev pub AreKnown : ℕ → List (Option PageNo) → Type 0
+AreKnown count pages = (frame : ℕ) (page : PageNo) → page_in pages frame ≡ Some page → page.0 < count
 
 -- ---- the stored form of what the client has
 
@@ -101,7 +110,8 @@ AreUsedFirst (e ∷ pages) =
     AllByRecursion (λ later. is_used later.1.hold ≡ true → is_used e.1.hold ≡ true) pages × AreUsedFirst pages
 
 -- The service is the client's own: it has the client's number, and a script with the client's schema; page by page
--- the two go together; and each image that the client has is resident. The client may have as many pages as said.
+-- the two go together; each image that the client has is resident, and pages and frames are those of pages that the
+-- service knows. The client may have as many pages as said.
 pub record IsOwn (serves : Script → Type 0) (told : Told Entry) (client : ClientView) : Type 0 where
   pub number : told.client ≡ client.frames.client.0
   pub script : (script : Script) × serves script × (script.schema ≡ client.schema)
@@ -111,5 +121,6 @@ pub record IsOwn (serves : Script → Type 0) (told : Told Entry) (client : Clie
   pub known : (page : ℕ) (entry : CachedPage) → entry_of client page ≡ Some entry
       → page < length told.opened
   pub frames : ArePaired client.frames.pages
+  pub framed : AreKnown (length told.opened) client.frames.pages
   pub short : length client.pages ≤ client.most
   pub first : AreUsedFirst client.pages

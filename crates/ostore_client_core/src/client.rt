@@ -6,7 +6,7 @@ ghost use Rattle.ostore_schema_layout.specs.Lawful.{IsLawful};
 ghost use Rattle.ostore_address_space.specs.Frames.{most_frames, frames_of};
 ghost use Rattle.ostore_page_service.specs.Told.{SameRecords, StillServes, NoBusy};
 ghost use Rattle.ostore_client_cache.specs.Entries.{is_in_use};
-ghost use Rattle.ostore_client_core.specs.Clients.{client_view, entry_of, IsAbsent, IsIdle, IsOwn};
+ghost use Rattle.ostore_client_core.specs.Clients.{client_view, entry_of, AreFree, IsAbsent, IsIdle, IsOwn};
 ghost use Rattle.ostore_graph_model.specs.declared.commands.Script.{Script};
 ghost use Rattle.ostore_client_core.specs.Attempts.{Attempts};
 
@@ -67,8 +67,9 @@ impl<'a, M: Mapper> Client<'a, M> {
         requires lawful { IsLawful schema.now }
         requires pages { cache ≤ most_pages }
         requires frames { frames ≤ most_frames }
-        ensures { let space = frames_of client (replicate frames None) in
+        ensures made { let space = frames_of client (replicate frames None) in
             IfOk result (λ made. made ≡ client_view schema.now space [] cache 0) }
+        ensures unframed { IfOk result (λ made. AreFree made.frames.pages) }
     {
         let space = Space::new(alloc, client, frames)?;
         let pages = Cache::new(alloc, cache)?;
@@ -84,12 +85,13 @@ impl<'a, M: Mapper> Client<'a, M> {
         })
     }
 
-    /// A law: a client without a page is its service's own, where the service holds nothing for it.
+    /// A law: a client without a page, also in its frames, is its service's own, where the service holds nothing for it.
     pub fn fresh_is_own<S: PageClaims<GraphKind>>(&self, service: &S)
         requires number { (S.tells service.now).client ≡ self.now.frames.client.0 }
         requires script { (script : Script) × S.serves service.now script
             × (script.schema ≡ self.now.schema) }
         requires without { self.now.pages ≡ [] }
+        requires unframed { AreFree self.now.frames.pages }
         requires nothing { (page : ℕ) → IsAbsent (S.tells service.now).mine page }
         ensures { IsOwn (S.serves service.now) (S.tells service.now) self.now }
     {

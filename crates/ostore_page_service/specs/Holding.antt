@@ -48,12 +48,13 @@ module _ {E Z : Type 0} where
     room = room_of (slice_get records c);
   }
 
-  -- what a server tells as the service of the client c
+  -- what a server tells as the service of the client c: its journal's disk doesn't fail
   abbrev pub told_in : GName → ℕ → ℕ → List PageImage → List Word → List PageImage → List (Vec (E × ℕ) Z) → ℕ → ℕ → ℕ → Told E
   told_in behind c first opened words last records busy number disk_faults = record {
     behind = behind;
     client = c;
     may_write = true;
+    may_fail = false;
     first = first;
     opened = opened;
     mine = side_in words last records c;

@@ -27,6 +27,7 @@ same_then x y = record {
   behind = y.behind ∙ x.behind;
   client = y.client ∙ x.client;
   may_write = y.may_write ∙ x.may_write;
+  may_fail = y.may_fail ∙ x.may_fail;
   first = y.first ∙ x.first;
   opened = y.opened ∙ x.opened;
   tells_others = y.tells_others ∙ x.tells_others;

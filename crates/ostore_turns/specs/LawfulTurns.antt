@@ -1,13 +1,16 @@
 -- What a turn may give, and what it leaves.
-use Rattle.std.specs.Prelude.{◌≡◌, ◌≢◌, ◌≤◌, ◌+◌, ◌⊎◌, ◌==◌, ℕ, Bool, true, false, if◌then◌else◌, List, length}
+use Rattle.std.specs.Prelude.{◌≡◌, ◌≢◌, ◌≤◌, ◌+◌, ◌⊎◌, ◌==◌, ℕ, Bool, true, false, if◌then◌else◌, List, [], ◌∷◌, ◌++◌, length}
 use Rattle.ostore_graph_model.specs.declared.commands.Txn.{Txn}
+use Rattle.ostore_graph_model.specs.declared.history.Committed.{Committed}
 use Rattle.ostore_job_text.specs.declared.job.JobClient.{JobClient}
+use Rattle.ostore_job_text.specs.RunnableJobs.{lines_of}
 use Rattle.ostore_run_report.specs.declared.results.Cause.{Cause}
 use Rattle.ostore_run_report.specs.declared.results.Cause.TheVariants.{Busy, NoSpace, CacheFull, SpaceFull, Disk, Stopped}
+use Rattle.ostore_run_report.specs.Results.{committed_as}
 use Rattle.ostore_turns.specs.declared.attempts.Gave.{Gave}
 use Rattle.ostore_turns.specs.declared.attempts.Gave.TheVariants.{Going, Committed, Aborted, Failed}
 use Rattle.ostore_turns.specs.declared.place.Place.{Place}
-use Rattle.ostore_turns.specs.Places.{Moment, IsIn, lines_of, moved}
+use Rattle.ostore_turns.specs.Places.{Moment, IsIn, moved}
 
 -- a disk call failed, so that no further line is executed
 abbrev pub StopsRun : Gave → Type 0
@@ -69,10 +72,21 @@ commits_then other commits = commits
 abbrev pub moved_one : ℕ → ℕ → Gave → (ℕ → Place) → ℕ → Place
 moved_one number tries gave places other = if other == number then moved tries (places other) gave else places other
 
+-- a client's records then: one more where its transaction was committed
+abbrev pub records_then : ℕ → Place → Bool → Gave → List Committed → List Committed
+records_then number at update (Committed commit replies) records = records ++ committed_as number (at.txn + 1) update commit replies ∷ []
+records_then number at update other records = records
+
+-- the client of the turn may have one more, and the others have what they had
+abbrev pub recorded_one : ℕ → Place → Bool → Gave → (ℕ → List Committed) → ℕ → List Committed
+recorded_one number at update gave records other =
+    if other == number then records_then number at update gave (records other) else records other
+
 -- a client executed its next line, which gave this
 pub record Turns (clients : List JobClient) (before : Moment) (number : ℕ) (gave : Gave) (after : Moment) : Type 0 where
   pub txn : Txn
   pub is_in : IsIn clients before number txn
   pub may : MayGive clients before number txn gave
   pub places : (other : ℕ) → after.places other ≡ moved_one number is_in.client.tries gave before.places other
+  pub records : (other : ℕ) → after.records other ≡ recorded_one number (before.places number) txn.update gave before.records other
   pub commits : after.commits ≡ commits_then gave before.commits

@@ -1,8 +1,10 @@
 -- Where each client is: at a line of an attempt at a transaction of its script.
-use Rattle.std.specs.Prelude.{◌≡◌, ◌<◌, ◌+◌, ◌^◌, ℕ, Bool, false, nat_lt, if◌then◌else◌, List, length, Some}
+use Rattle.std.specs.Prelude.{◌≡◌, ◌<◌, ◌+◌, ◌^◌, ℕ, Bool, false, nat_lt, if◌then◌else◌, List, Some}
 use Rattle.std.specs.List.{slice_get}
 use Rattle.ostore_graph_model.specs.declared.commands.Txn.{Txn}
+use Rattle.ostore_graph_model.specs.declared.history.Committed.{Committed}
 use Rattle.ostore_job_text.specs.declared.job.JobClient.{JobClient}
+use Rattle.ostore_job_text.specs.RunnableJobs.{lines_of}
 use Rattle.ostore_run_report.specs.declared.results.Cause.{Cause}
 use Rattle.ostore_run_report.specs.declared.results.Cause.TheVariants.{Busy}
 use Rattle.ostore_turns.specs.declared.attempts.Gave.{Gave}
@@ -43,17 +45,14 @@ pub record HasRoom (at : Place) : Type 0 where
 
 -- ---- where all clients are
 
--- where each client is, by its number, and the number of the last commit
+-- where each client is, by its number, what it has committed, in that order, and the number of the last commit
 pub record Moment : Type 0 where
   pub places : ℕ → Place
+  pub records : ℕ → List Committed
   pub commits : ℕ
 
-abbrev pub moment_of : (ℕ → Place) → ℕ → Moment
-moment_of places commits = record { places = places; commits = commits }
-
--- a transaction has a line that begins it, its commands, and a line that ends it
-abbrev pub lines_of : Txn → ℕ
-lines_of txn = length txn.commands + 2
+abbrev pub moment_of : (ℕ → Place) → (ℕ → List Committed) → ℕ → Moment
+moment_of places records commits = record { places = places; records = records; commits = commits }
 
 -- the client is in this transaction of its script
 pub record IsIn (clients : List JobClient) (now : Moment) (number : ℕ) (txn : Txn) : Type 0 where

@@ -1,39 +1,16 @@
 -- A run of a job by turns.
-use Rattle.std.specs.Prelude.{◌≡◌, ◌≤◌, ℕ, Bool, true, false, List, [], ◌∷◌, ◌++◌, length}
-use Rattle.std.specs.List.{AllByRecursion, sum_by}
-use Rattle.ostore_base.specs.Limits.{most_clients}
-use Rattle.ostore_job_text.specs.Limits.{most_tries}
-use Rattle.ostore_job_text.specs.LawfulJob.{IsLawfulTurn as IsLawfulEntry}
+use Rattle.std.specs.Prelude.{◌≡◌, ℕ, Bool, true, false, List, [], ◌∷◌, ◌++◌}
+use Rattle.std.specs.List.{AllByRecursion}
 use Rattle.ostore_job_text.specs.declared.job.Job.{Job}
-use Rattle.ostore_job_text.specs.declared.job.JobClient.{JobClient}
 use Rattle.ostore_turns.specs.declared.running.TurnsRun.{TurnsRun}
-use Rattle.ostore_turns.specs.Places.{Moment, first_place, HasLine, lines_of}
+use Rattle.ostore_turns.specs.Places.{Moment, first_place, HasLine}
 use Rattle.ostore_turns.specs.Schedules.{Turn, Takes}
 use Rattle.ostore_turns.specs.LawfulTurns.{StopsRun}
 use Rattle.ostore_turns.specs.TurnResults.{results_from}
 
--- how many lines a client's transactions have together
-abbrev pub all_lines : JobClient → ℕ
-all_lines client = sum_by lines_of client.txns
-
-abbrev pub most_lines : ℕ
-most_lines = 4194304
-
--- a client may be tried so often, and has so many lines
-pub record IsWithinLimits (client : JobClient) : Type 0 where
-  pub some : 1 ≤ client.tries
-  pub tries : client.tries ≤ most_tries
-  pub lines : all_lines client ≤ most_lines
-
--- a job that runs by turns
-pub record CanRun (job : Job) : Type 0 where
-  pub few : length job.clients ≤ most_clients
-  pub clients : AllByRecursion IsWithinLimits job.clients
-  pub entries : AllByRecursion (IsLawfulEntry job.clients) job.turns
-
--- each client is at the first line of its script
+-- each client is at the first line of its script, and has committed nothing
 abbrev pub IsFirst : Moment → Type 0
-IsFirst now = (client : ℕ) → now.places client ≡ first_place
+IsFirst now = (client : ℕ) → (now.places client ≡ first_place) × (now.records client ≡ [])
 
 -- A run ends with the first turn at which a disk call fails, and else where no client has a line left.
 abbrev pub HasEnded : Job → Bool → List Turn → Moment → Type 0

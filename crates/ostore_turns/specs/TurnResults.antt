@@ -48,3 +48,17 @@ results_of number client turns = with_not_run (length client.txns) (ended_by num
 abbrev pub results_from : ℕ → List JobClient → List Turn → List (List TxnResult)
 results_from number [] turns = []
 results_from number (client ∷ clients) turns = results_of number client turns ∷ results_from (number + 1) clients turns
+
+-- it holds of each client with its results, and there are as many lists of results as clients
+abbrev pub AllByClient : (JobClient → List TxnResult → Type 0) → List JobClient → List (List TxnResult) → Type 0
+AllByClient P [] [] = Unit {0}
+AllByClient P [] (mine ∷ others) = ⊥
+AllByClient P (client ∷ clients) [] = ⊥
+AllByClient P (client ∷ clients) (mine ∷ others) = P client mine × AllByClient P clients others
+
+-- it holds of each transaction with its result, and there are as many results as transactions
+abbrev pub AllByTxn : (Txn → TxnResult → Type 0) → List Txn → List TxnResult → Type 0
+AllByTxn P [] [] = Unit {0}
+AllByTxn P [] (result ∷ results) = ⊥
+AllByTxn P (txn ∷ txns) [] = ⊥
+AllByTxn P (txn ∷ txns) (result ∷ results) = P txn result × AllByTxn P txns results

@@ -2,10 +2,14 @@
 
 ghost use Rattle.std.specs.Prelude.{◌≡◌, ◌<◌, false, IfOk, Some, length, replicate};
 ghost use Rattle.std.specs.List.{slice_get};
-ghost use Rattle.ostore_turns.specs.Runs.{CanRun, IsFirst, IsRunBy, IsWithinLimits};
+ghost use Rattle.std.specs.List.{AllByRecursion};
+ghost use Rattle.ostore_job_text.specs.RunnableJobs.{CanRun, IsWithinLimits};
+ghost use Rattle.ostore_turns.specs.Bounds.{AreBounded, IsResultWithin};
+ghost use Rattle.ostore_turns.specs.Runs.{IsFirst, IsRunBy};
 ghost use Rattle.ostore_turns.specs.inside.Steps.{
   AreSeated,
   AreTurns,
+  AreWithin,
   IsFitPlace,
   IsOneTurn,
   IsTaken,
@@ -60,9 +64,16 @@ fn execute_next<S: Attempts>(
     requires place { seat.old.place ≡ (S.moment store.old).places number.0 }
     requires fits { IsFitPlace client.now seat.old.place }
     requires limits { IsWithinLimits client.now }
+    requires within { AllByRecursion
+        (IsResultWithin (S.bounds (S.constants store.old)) client.now) seat.old.results }
+    requires ready { S.ready store.old }
     ensures took { IfOk result (λ took. IsTaken client.now number.0 took seat.old seat.new
         (S.clients store.old) (S.moment store.old) (S.moment store.new)) }
+    ensures within { IfOk result (λ _took. AllByRecursion
+        (IsResultWithin (S.bounds (S.constants store.new)) client.now) seat.new.results) }
+    ensures ready { IfOk result (λ _took. S.ready store.new) }
     ensures clients { S.clients store.new ≡ S.clients store.old }
+    ensures constants { S.constants store.new ≡ S.constants store.old }
 {
     let at = seat.place;
     let Some(txn) = client.txns.items().get(at.txn as usize) else {
@@ -111,7 +122,13 @@ impl Run {
         requires there { number < length job.now.clients }
         requires clients { S.clients store.old ≡ job.now.clients }
         requires seated { AreSeated job.now.clients (S.moment store.old) self.old }
+        requires within { AreWithin (S.bounds (S.constants store.old)) job.now.clients self.old }
+        requires ready { S.ready store.old }
         ensures clients { S.clients store.new ≡ S.clients store.old }
+        ensures constants { S.constants store.new ≡ S.constants store.old }
+        ensures ready { IfOk result (λ _took. S.ready store.new) }
+        ensures within { IfOk result (λ _took.
+            AreWithin (S.bounds (S.constants store.new)) job.now.clients self.new) }
         ensures seated { IfOk result (λ _took.
             AreSeated job.now.clients (S.moment store.new) self.new) }
         ensures passes { IfOk result (λ _took. Passes job.now 1 (λ _k. number)
@@ -146,7 +163,13 @@ impl Run {
         requires there { number < length job.now.clients }
         requires clients { S.clients store.old ≡ job.now.clients }
         requires seated { AreSeated job.now.clients (S.moment store.old) self.old }
+        requires within { AreWithin (S.bounds (S.constants store.old)) job.now.clients self.old }
+        requires ready { S.ready store.old }
         ensures clients { S.clients store.new ≡ S.clients store.old }
+        ensures constants { S.constants store.new ≡ S.constants store.old }
+        ensures ready { IfOk result (λ _done. S.ready store.new) }
+        ensures within { IfOk result (λ _done.
+            AreWithin (S.bounds (S.constants store.new)) job.now.clients self.new) }
         ensures seated { IfOk result (λ _done.
             AreSeated job.now.clients (S.moment store.new) self.new) }
         ensures passes { IfOk result (λ _done. Passes job.now count (λ _k. number)
@@ -165,7 +188,13 @@ impl Run {
         requires job { CanRun job.now }
         requires clients { S.clients store.old ≡ job.now.clients }
         requires seated { AreSeated job.now.clients (S.moment store.old) self.old }
+        requires within { AreWithin (S.bounds (S.constants store.old)) job.now.clients self.old }
+        requires ready { S.ready store.old }
         ensures clients { S.clients store.new ≡ S.clients store.old }
+        ensures constants { S.constants store.new ≡ S.constants store.old }
+        ensures ready { IfOk result (λ _took. S.ready store.new) }
+        ensures within { IfOk result (λ _took.
+            AreWithin (S.bounds (S.constants store.new)) job.now.clients self.new) }
         ensures seated { IfOk result (λ _took.
             AreSeated job.now.clients (S.moment store.new) self.new) }
         ensures passes { IfOk result (λ _took. Passes job.now (length job.now.clients) (λ k. k)
@@ -196,7 +225,8 @@ impl Run {
 }
 
 /// Executes the clients of a job by turns: those of the entries of its schedule, and then one turn of each client in
-/// job order, again and again, until none has a line left or a disk call has failed.
+/// job order, again and again, until none has a line left or a disk call has failed. After want of memory nothing is
+/// told of where the clients are.
 pub fn take_turns<S: Attempts>(
     alloc: Global,
     job: &Job,
@@ -205,7 +235,13 @@ pub fn take_turns<S: Attempts>(
     requires job { CanRun job.now }
     requires clients { S.clients store.old ≡ job.now.clients }
     requires fresh { IsFirst (S.moment store.old) }
-    ensures { IfOk result (IsRunBy job.now (S.moment store.old) (S.moment store.new)) }
+    requires ready { S.ready store.old }
+    ensures run { IfOk result (IsRunBy job.now (S.moment store.old) (S.moment store.new)) }
+    ensures bounded { IfOk result (λ run.
+        AreBounded (S.bounds (S.constants store.old)) job.now.clients run.results) }
+    ensures ready { IfOk result (λ _run. S.ready store.new) }
+    ensures clients { S.clients store.new ≡ S.clients store.old }
+    ensures constants { S.constants store.new ≡ S.constants store.old }
 {
     let mut run = Run::new(alloc, job)?;
     for entry in job.turns.items() {

@@ -8,7 +8,7 @@ ghost use Rattle.ostore_page_service.specs.Told.{SameRecords, StillServes, NoBus
 ghost use Rattle.ostore_client_cache.specs.Entries.{is_owned, with_bytes};
 ghost use Rattle.ostore_client_core.specs.Clients.{entry_of, is_page_used, with_pages, IsOwn};
 ghost use Rattle.ostore_client_core.specs.Attempts.{Attempts, Narrows};
-ghost use Rattle.ostore_client_core.specs.Calls.{IsBusy, OwnsPage, Refused};
+ghost use Rattle.ostore_client_core.specs.Calls.{IsBusy, OwnsNoMore, OwnsPage, Refused, SameClient};
 
 use crate::client::Client;
 use crate::fault::AttemptFault;
@@ -41,6 +41,8 @@ impl<'a, M: Mapper> Client<'a, M> {
         ensures own { IsOwn (S.serves service.new) (S.tells service.new) self.new }
         ensures narrows { OnOk result (Narrows (S.serves service.old) (S.serves service.new)
             (S.tells service.old) (S.tells service.new) self.old self.new) }
+        ensures same_client { SameClient self.old self.new }
+        ensures owned { OwnsNoMore self.old self.new }
         ensures used { IfSome (page_in self.old.frames.pages (address / 4096)) (λ page.
             OnOk result (is_page_used self.new page.0)) }
         ensures calm { OnOk result (NoBusy (S.tells service.old) (S.tells service.new)) }
@@ -56,7 +58,8 @@ impl<'a, M: Mapper> Client<'a, M> {
         self.bring(service, page)
     }
 
-    /// Makes the attempt the owner of the page in use at an address. Busy leaves the client as it was.
+    /// Makes the attempt the owner of the page in use at an address. Busy comes where another client uses the page, and
+    /// leaves the client as it was.
     pub fn own<S: PageService<GraphKind>>(
         &mut self,
         service: &mut S,
@@ -70,6 +73,7 @@ impl<'a, M: Mapper> Client<'a, M> {
         ensures own { IsOwn (S.serves service.new) (S.tells service.new) self.new }
         ensures narrows { OnOk result (Narrows (S.serves service.old) (S.serves service.new)
             (S.tells service.old) (S.tells service.new) self.old self.new) }
+        ensures same_client { SameClient self.old self.new }
         ensures owned { IfSome (page_in self.old.frames.pages (address / 4096)) (λ page.
             OnOk result (OwnsPage self.old self.new page.0)) }
         ensures calm { OnOk result (NoBusy (S.tells service.old) (S.tells service.new)) }

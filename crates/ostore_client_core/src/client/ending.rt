@@ -6,7 +6,7 @@ ghost use Rattle.ostore_page_service.specs.Told.{SameRecords, StillServes, NoBus
 ghost use Rattle.ostore_client_cache.specs.Entries.{is_in_use};
 ghost use Rattle.ostore_client_core.specs.declared.release.Ending.TheVariants.{Aborted};
 ghost use Rattle.ostore_client_core.specs.Clients.{entry_of, AreUsedFirst, IsIdle, IsOwn};
-ghost use Rattle.ostore_client_core.specs.Calls.{Releases};
+ghost use Rattle.ostore_client_core.specs.Calls.{Releases, SameClient};
 ghost use Rattle.ostore_client_core.specs.inside.Releasing.{EndsWith, HaveImages};
 
 use crate::client::Client;
@@ -45,6 +45,7 @@ impl<'a, M: Mapper> Client<'a, M> {
     /// are gone, their copies void; every other one is retained, unless the service gave it up. It takes no memory.
     pub fn abort<S: PageService<GraphKind>>(&mut self, service: &mut S)
         requires own { IsOwn (S.serves service.old) (S.tells service.old) self.old }
+        ensures same_client { SameClient self.old self.new }
         ensures released { Releases Aborted self.old self.new (S.tells service.new).mine }
         ensures idle { IsIdle self.new }
         ensures own { IsOwn (S.serves service.new) (S.tells service.new) self.new }

@@ -9,7 +9,7 @@ ghost use Rattle.ostore_client_cache.specs.Entries.{hold_of, is_in_use};
 ghost use Rattle.ostore_client_cache.specs.Caches.{used_pages};
 ghost use Rattle.ostore_client_core.specs.Clients.{entry_of, is_page_used, IsOwn};
 ghost use Rattle.ostore_client_core.specs.Attempts.{Attempts, Narrows};
-ghost use Rattle.ostore_client_core.specs.Calls.{IsFitPage, Takes, Loses, Refused, IsAddressOf};
+ghost use Rattle.ostore_client_core.specs.Calls.{IsFitPage, OwnsNoMore, SameClient, Takes, Loses, Refused, IsAddressOf};
 
 use crate::client::Client;
 use crate::fault::AttemptFault;
@@ -69,6 +69,8 @@ impl<'a, M: Mapper> Client<'a, M> {
         ensures own { IsOwn (S.serves service.new) (S.tells service.new) self.new }
         ensures narrows { OnOk result (Narrows (S.serves service.old) (S.serves service.new)
             (S.tells service.old) (S.tells service.new) self.old self.new) }
+        ensures same_client { SameClient self.old self.new }
+        ensures owned { OwnsNoMore self.old self.new }
         ensures used { OnOk result (is_page_used self.new page.0) }
         ensures calm { OnOk result (NoBusy (S.tells service.old) (S.tells service.new)) }
         ensures refused { IfErr result (λ fault. Refused fault self.old self.new page
@@ -106,6 +108,8 @@ impl<'a, M: Mapper> Client<'a, M> {
         ensures own { IsOwn (S.serves service.new) (S.tells service.new) self.new }
         ensures narrows { OnOk result (Narrows (S.serves service.old) (S.serves service.new)
             (S.tells service.old) (S.tells service.new) self.old self.new) }
+        ensures same_client { SameClient self.old self.new }
+        ensures owned { OwnsNoMore self.old self.new }
         ensures used { OnOk result (is_page_used self.new page.0) }
         ensures calm { OnOk result (NoBusy (S.tells service.old) (S.tells service.new)) }
         ensures refused { IfErr result (λ fault. Refused fault self.old self.new page
@@ -144,6 +148,8 @@ impl<'a, M: Mapper> Client<'a, M> {
         ensures own { IsOwn (S.serves service.new) (S.tells service.new) self.new }
         ensures narrows { OnOk result (Narrows (S.serves service.old) (S.serves service.new)
             (S.tells service.old) (S.tells service.new) self.old self.new) }
+        ensures same_client { SameClient self.old self.new }
+        ensures owned { OwnsNoMore self.old self.new }
         ensures used { OnOk result (is_page_used self.new page.0) }
         ensures calm { OnOk result (NoBusy (S.tells service.old) (S.tells service.new)) }
         ensures refused { IfErr result (λ fault. Refused fault self.old self.new page
@@ -179,10 +185,11 @@ impl<'a, M: Mapper> Client<'a, M> {
         }
     }
 
-    /// Brings a page into use, and answers its frame's first address. CacheFull comes exactly where the pages in use are
-    /// as many as there may be, and one more is needed; then no claim was made. Busy and want of memory leave the client
-    /// as it was. SpaceFull comes after the claim: a page that the image needs has no frame, and none is free. The page
-    /// was then fetched and released, and its copy dropped. Where the client has as many pages as there may be and
+    /// Brings a page into use, and answers its frame's first address. It owns none. CacheFull comes exactly where the
+    /// pages in use are as many as there may be, and one more is needed; then no claim was made. Busy comes where another
+    /// client owns the page. Busy and want of memory leave the client as it was. SpaceFull comes after the claim: a page
+    /// that the image needs has no frame, and none is free. The page was then fetched and released, and its copy dropped.
+    /// Neither of the two comes where there is room for all pages of the database. Where the client has as many pages as there may be and
     /// hadn't this one, the retained page that was used least recently is dropped, directly after the claim.
     pub fn enter<S: PageService<GraphKind>>(
         &mut self,
@@ -194,6 +201,8 @@ impl<'a, M: Mapper> Client<'a, M> {
         ensures own { IsOwn (S.serves service.new) (S.tells service.new) self.new }
         ensures narrows { OnOk result (Narrows (S.serves service.old) (S.serves service.new)
             (S.tells service.old) (S.tells service.new) self.old self.new) }
+        ensures same_client { SameClient self.old self.new }
+        ensures owned { OwnsNoMore self.old self.new }
         ensures used { OnOk result (is_page_used self.new page.0) }
         ensures calm { OnOk result (NoBusy (S.tells service.old) (S.tells service.new)) }
         ensures address { IfOk result (IsAddressOf self.new page.0) }

@@ -5,7 +5,7 @@ ghost use Rattle.ostore_page_service.specs.Told.{StillServes};
 ghost use Rattle.ostore_client_core.specs.declared.release.Ending.TheVariants.{Committed};
 ghost use Rattle.ostore_client_core.specs.Clients.{IsIdle, IsOwn};
 ghost use Rattle.ostore_client_core.specs.Attempts.{Attempts};
-ghost use Rattle.ostore_client_core.specs.Calls.{Releases};
+ghost use Rattle.ostore_client_core.specs.Calls.{Releases, SameClient};
 ghost use Rattle.ostore_client_core.specs.Commits.{FailsToCommit, Finishes, FitsClient, ServesStill, WritesOwned};
 ghost use Rattle.ostore_client_core.specs.inside.Writing.{AreFitOwned};
 
@@ -92,6 +92,7 @@ impl<'a, M: Mapper> Client<'a, M> {
         ensures own { IsOwn (S.serves service.new) (S.tells service.new) self.new }
         ensures done { IfOk result
             (Finishes (S.tells service.old) (S.tells service.new) self.old entry) }
+        ensures same_client { SameClient self.old self.new }
         ensures released { OnOk result
             (Releases Committed self.old self.new (S.tells service.new).mine) }
         ensures idle { OnOk result (IsIdle self.new) }

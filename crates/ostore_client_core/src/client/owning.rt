@@ -6,7 +6,7 @@ ghost use Rattle.ostore_page_service.specs.Told.{SameRecords, StillServes, NoBus
 ghost use Rattle.ostore_client_cache.specs.Entries.{used_image};
 ghost use Rattle.ostore_client_core.specs.Clients.{entry_of, is_page_used, IsOwn};
 ghost use Rattle.ostore_client_core.specs.Attempts.{Attempts, Narrows};
-ghost use Rattle.ostore_client_core.specs.Calls.{lent, OwnsPage, IsBusy};
+ghost use Rattle.ostore_client_core.specs.Calls.{lent, OwnsPage, IsBusy, SameClient};
 
 use crate::client::Client;
 use crate::fault::AttemptFault;
@@ -50,6 +50,7 @@ impl<'a, M: Mapper> Client<'a, M> {
         ensures own { IsOwn (S.serves service.new) (S.tells service.new) self.new }
         ensures narrows { OnOk result (Narrows (S.serves service.old) (S.serves service.new)
             (S.tells service.old) (S.tells service.new) self.old self.new) }
+        ensures same_client { SameClient self.old self.new }
         ensures owned { OnOk result (OwnsPage self.old self.new page.0) }
         ensures refused { IfErr result (λ fault. (self.new ≡ self.old)
             × IsBusy fault (S.tells service.old) (S.tells service.new) page.0) }

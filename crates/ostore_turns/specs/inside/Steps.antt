@@ -4,6 +4,7 @@ use Rattle.std.specs.List.{slice_get, sum_by, AllByRecursion}
 use Rattle.ostore_graph_model.specs.declared.commands.Txn.{Txn}
 use Rattle.ostore_job_text.specs.declared.job.Job.{Job}
 use Rattle.ostore_job_text.specs.declared.job.JobClient.{JobClient}
+use Rattle.ostore_job_text.specs.RunnableJobs.{lines_of, most_lines}
 use Rattle.ostore_run_report.specs.declared.results.TxnResult.{TxnResult}
 use Rattle.ostore_turns.specs.declared.attempts.Gave.{Gave}
 use Rattle.ostore_turns.specs.declared.place.Place.{Place}
@@ -11,9 +12,9 @@ use Rattle.ostore_turns.specs.declared.running.Run.{Run}
 use Rattle.ostore_turns.specs.declared.running.Took.{Took}
 use Rattle.ostore_turns.specs.declared.running.Took.TheVariants.{NoTurn, OneTurn, LastTurn}
 use Rattle.ostore_turns.specs.declared.seat.Seat.{Seat}
-use Rattle.ostore_turns.specs.Places.{Moment, first_place, lines_of, moved, HasLine}
+use Rattle.ostore_turns.specs.Places.{Moment, first_place, moved, HasLine}
 use Rattle.ostore_turns.specs.LawfulTurns.{StopsRun, Turns}
-use Rattle.ostore_turns.specs.Runs.{most_lines}
+use Rattle.ostore_turns.specs.Bounds.{Bounds, IsResultWithin}
 use Rattle.ostore_turns.specs.Schedules.{Turn, Takes, scheduled}
 use Rattle.ostore_turns.specs.TurnResults.{result_by, ended_by, with_not_run}
 
@@ -59,6 +60,12 @@ pub record AreSeated (clients : List JobClient) (now : Moment) (run : Run) : Typ
   pub long : length run.seats.items ≡ length clients
   pub places : (i : ℕ) (seat : Seat) → slice_get run.seats.items i ≡ Some seat → seat.place ≡ now.places i
   pub fit : (i : ℕ) (client : JobClient) (seat : Seat) → slice_get clients i ≡ Some client → slice_get run.seats.items i ≡ Some seat → IsFitPlace client seat.place
+
+-- what became of each client's transactions is within the bounds
+abbrev pub AreWithin : Bounds → List JobClient → Run → Type 0
+AreWithin bounds clients run =
+    (i : ℕ) (client : JobClient) (seat : Seat) → slice_get clients i ≡ Some client → slice_get run.seats.items i ≡ Some seat
+    → AllByRecursion (IsResultWithin bounds client) seat.results
 
 -- The turns so far are all that come before a place of the schedule; or a disk call failed at the last of them.
 abbrev pub AreUpTo : Job → Bool → List Turn → ℕ → ℕ → Moment → Type 0

@@ -11,6 +11,7 @@ returns-clause-same g c =
         behind = refl;
         client = refl;
         may_write = refl;
+        may_fail = refl;
         first = refl;
         opened = refl;
         tells_others = refl;

@@ -1,0 +1,6 @@
+//! Histories of pages as histories of graphs: laws about what committed on the pages of a database.
+#![tactic(auto)]
+
+mod laws;
+
+pub use laws::{history_is_legal, ints_have_no_indexes, space_is_lacked};

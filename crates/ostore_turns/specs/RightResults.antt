@@ -1,0 +1,59 @@
+-- What the results of a run by turns say, whatever the turns were.
+use Rattle.std.specs.Prelude.{◌≡◌, ◌≤◌, ◌==◌, ℕ, Bool, true, false, List, filter}
+use Rattle.ostore_graph_model.specs.declared.commands.Txn.{Txn}
+use Rattle.ostore_graph_model.specs.declared.history.Committed.{Committed}
+use Rattle.ostore_job_text.specs.RunnableJobs.{CanRun}
+use Rattle.ostore_job_text.specs.declared.job.Job.{Job}
+use Rattle.ostore_job_text.specs.declared.job.JobClient.{JobClient}
+use Rattle.ostore_run_report.specs.declared.results.Cause.{Cause}
+use Rattle.ostore_run_report.specs.declared.results.Cause.TheVariants.{Busy, NoSpace, CacheFull, SpaceFull, Disk, Stopped}
+use Rattle.ostore_run_report.specs.declared.results.TxnResult.{TxnResult}
+use Rattle.ostore_run_report.specs.declared.results.TxnResult.TheVariants.{Commit, Read, Abort, GaveUp, NotRun}
+use Rattle.ostore_run_report.specs.Results.{committed_of}
+use Rattle.ostore_turns.specs.declared.running.TurnsRun.{TurnsRun}
+use Rattle.ostore_turns.specs.Places.{Moment}
+use Rattle.ostore_turns.specs.TurnResults.{AllByClient, AllByTxn}
+use Rattle.ostore_turns.specs.Runs.{IsFirst, IsRunBy}
+
+-- ---- each result
+
+-- a transaction was tried, and not more often than its client's option allows
+abbrev pub IsTried : JobClient → ℕ → Type 0
+IsTried client tries = (1 ≤ tries) × (tries ≤ client.tries)
+
+-- why it may have been given up: for busy on its last try, and for a disk call only where the run ended with that
+abbrev pub MayGiveUp : Bool → JobClient → Txn → ℕ → Cause → Type 0
+MayGiveUp disk_failed client txn tries (Busy page seen found) = tries ≡ client.tries
+MayGiveUp disk_failed client txn tries (NoSpace segment need) = Unit {0}
+MayGiveUp disk_failed client txn tries (CacheFull used capacity) = Unit {0}
+MayGiveUp disk_failed client txn tries (SpaceFull frames) = Unit {0}
+MayGiveUp disk_failed client txn tries Disk = (disk_failed ≡ true) × (txn.update ≡ true)
+MayGiveUp disk_failed client txn tries (Stopped after) = ⊥
+
+-- A transaction that its script aborts is aborted, an update is committed and a read has read, unless it was given up, or a disk
+-- call failed before it ended.
+abbrev pub IsRightResult : Bool → JobClient → Txn → TxnResult → Type 0
+IsRightResult disk_failed client txn (Commit number tries replies) = (txn.aborts ≡ false) × (txn.update ≡ true) × IsTried client tries
+IsRightResult disk_failed client txn (Read number tries replies) = (txn.aborts ≡ false) × (txn.update ≡ false) × IsTried client tries
+IsRightResult disk_failed client txn (Abort tries) = (txn.aborts ≡ true) × IsTried client tries
+IsRightResult disk_failed client txn (GaveUp tries cause) = IsTried client tries × MayGiveUp disk_failed client txn tries cause
+IsRightResult disk_failed client txn NotRun = disk_failed ≡ true
+
+-- each transaction of each client has one result, which is right
+abbrev pub AreRight : Job → TurnsRun → Type 0
+AreRight job run =
+    AllByClient (λ client mine. AllByTxn (IsRightResult run.disk_failed client) client.txns mine) job.clients run.results
+
+abbrev pub ResultsAreRight : Type 0
+ResultsAreRight = (job : Job) (first after : Moment) (run : TurnsRun) → CanRun job → IsFirst first → IsRunBy job first after run
+    → AreRight job run
+
+-- ---- the records of the last moment
+
+-- each client's records are those of the committed transactions that are its own
+abbrev pub AreRecords : Moment → TurnsRun → Type 0
+AreRecords after run = (client : ℕ) → after.records client ≡ filter (λ one. one.entry.client.0 == client) (committed_of run.results)
+
+abbrev pub ResultsAreRecords : Type 0
+ResultsAreRecords = (job : Job) (first after : Moment) (run : TurnsRun) → CanRun job → IsFirst first → IsRunBy job first after run
+    → AreRecords after run
