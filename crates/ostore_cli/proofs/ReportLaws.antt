@@ -5,10 +5,9 @@ use Rattle.std.specs.Option.{option_map}
 use Rattle.std.proofs.lemmas.Option.{slice_get-map}
 use Rattle.std.proofs.Math.Dec.{eqb-suc-zero}
 use Rattle.ostore_graph_model.specs.declared.commands.Txn.{Txn}
-use Rattle.ostore_graph_model.specs.Graph.{Graph}
 use Rattle.ostore_graph_model.specs.History.{txn_at, updates, HasCommitted, AllCommitted}
 use Rattle.ostore_try_input.specs.declared.input.TryInput.{TryInput}
-use Rattle.ostore_job_text.specs.declared.job.Job.{Job}
+use Rattle.ostore_job_text.specs.declared.job.JobTurn.{JobTurn}
 use Rattle.ostore_job_text.specs.declared.job.JobClient.{JobClient}
 use Rattle.ostore_run_report.specs.declared.results.Tail.{Tail}
 use Rattle.ostore_run_report.specs.declared.results.TxnResult.{TxnResult}
@@ -17,9 +16,9 @@ use Rattle.ostore_run_report.specs.Results.{committed_of}
 use Rattle.ostore_try_input.specs.Scripts.{script_of}
 use Rattle.ostore_try_input.specs.Spelling.{Says}
 use Rattle.ostore_client_turns.specs.declared.run.Run.{Run}
-use Rattle.ostore_cli.specs.FreshRuns.{fresh_bounds, HasRun, any_given_up}
+use Rattle.ostore_cli.specs.FreshRuns.{fresh_bounds, any_given_up}
 use Rattle.ostore_cli.specs.Promise.{IsReportOf, plain_tail}
-use Rattle.ostore_cli.specs.inside.Runs.{IsAlone, IsRunAlone}
+use Rattle.ostore_cli.specs.inside.Runs.{IsRunAlone}
 use Rattle.ostore_cli.proofs.ResultLaws.{JobEnds, job_ends, all_stand}
 
 -- ---- the transactions of a job, by their ordinals
@@ -45,20 +44,19 @@ everyone input results ends client (suc i) txn there kept =
 -- ---- the report
 
 -- what is printed of a job that ran alone is its report
-pub report_of : (text : List ℕ) (input : TryInput) (job : Job) (run : Run) (tail : Tail) (output : List ℕ) (given_up : Bool) → Says text input → IsAlone input.job job → IsRunAlone input.schema job run
+pub report_of : (text : List ℕ) (input : TryInput) (turns : List JobTurn) (run : Run) (tail : Tail) (output : List ℕ) (given_up : Bool) → Says text input
+    → IsRunAlone input.schema (record { clients = input.job.clients; turns = turns }) run
     → tail ≡ record { disk_fault_after = run.tail.disk_fault_after; commits = run.tail.commits; fetches = None }
-    → output ≡ report job run.results tail → given_up ≡ any_given_up run.results → IsReportOf text output given_up
-report_of text input job run tail output given_up says alone is tail_is printed told =
-    let ran : HasRun (script_of input) input.job.clients run.results is.last =
-    subst (λ (clients : List JobClient). HasRun (record { schema = input.schema; clients = map (λ client. client.txns) clients }) clients run.results is.last) alone.clients is.ran in
+    → output ≡ report (record { clients = input.job.clients; turns = turns }) run.results tail → given_up ≡ any_given_up run.results → IsReportOf text output given_up
+report_of text input turns run tail output given_up says is tail_is printed told =
     let last_lines : tail ≡ plain_tail (length (updates (committed_of run.results))) = tail_is ∙ (λ i. record { disk_fault_after = is.faultless i; commits = is.commits i; fetches = None }) in
     record {
       input = input;
       says = says;
       results = run.results;
       last = is.last;
-      ran = ran;
+      ran = is.ran;
       told = sym told;
-      everyone = λ none. everyone input run.results (job_ends (fresh_bounds (script_of input)) input.job.clients run.results ran.ends (sym told ∙ none));
-      printed = printed ∙ (λ i. report (record { clients = alone.clients i; turns = job.turns }) run.results (last_lines i));
+      everyone = λ none. everyone input run.results (job_ends (fresh_bounds (script_of input)) input.job.clients run.results is.ran.ends (sym told ∙ none));
+      printed = printed ∙ ap (λ (t : Tail). report input.job run.results t) last_lines;
     }

@@ -20,13 +20,14 @@ use Rattle.ostore_graph_model.specs.LawsOfMeaning.{LawOfOneGraph}
 use Rattle.ostore_graph_model.specs.StandsFor.{StandsFor}
 use Rattle.ostore_job_text.specs.declared.job.Job.{Job}
 use Rattle.ostore_job_text.specs.declared.job.JobClient.{JobClient}
+use Rattle.ostore_job_text.specs.RunnableJobs.{CanRun}
 use Rattle.ostore_run_report.specs.declared.results.Cause.{Cause}
 use Rattle.ostore_run_report.specs.declared.results.Cause.TheVariants.{Busy, NoSpace, CacheFull, SpaceFull, Disk, Stopped}
 use Rattle.ostore_run_report.specs.declared.results.Tail.{Tail}
 use Rattle.ostore_run_report.specs.declared.results.TxnResult.{TxnResult}
 use Rattle.ostore_run_report.specs.declared.results.TxnResult.TheVariants.{Commit, Read, Abort, GaveUp, NotRun}
 use Rattle.ostore_run_report.specs.Results.{committed_of}
-use Rattle.ostore_turns.specs.Alone.{ClientsRunAlone, WasAlone}
+use Rattle.ostore_turns.specs.Alone.{ClientsRunAlone, WasAlone, AreOneAfterTheOther}
 use Rattle.ostore_turns.specs.Bounds.{Bounds, IsBounded, IsResultWithin, AreBounded}
 use Rattle.ostore_turns.specs.RightResults.{IsRight, ResultsAreRight}
 use Rattle.ostore_turns.specs.TurnResults.{AllByClient, AllByTxn}
@@ -34,7 +35,7 @@ use Rattle.ostore_graph_history.specs.Histories.{IsHistoryTo}
 use Rattle.ostore_client_turns.specs.declared.run.Run.{Run}
 use Rattle.ostore_client_turns.specs.Runs.{bounds_of, first_moment, script_of}
 use Rattle.ostore_cli.specs.FreshRuns.{all_pages, free_pages, fresh_bounds, EndsAs, AllEnd}
-use Rattle.ostore_cli.specs.inside.Runs.{IsAlone, IsFreshRun, IsRunAlone}
+use Rattle.ostore_cli.specs.inside.Runs.{IsFreshRun, IsRunAlone}
 use Rattle.ostore_cli.proofs.FreshLaws.{fresh_frees}
 
 -- ---- why a transaction is given up
@@ -97,12 +98,12 @@ module _ (script : Script) (text : List ℕ) (one : LawOfOneGraph) (stands : Sta
 -- ---- the run
 
 ran_alone : (text : List ℕ) (schema : Schema) (job : Job) (run : Run) → LawOfFreshPages → LawOfOneGraph → ResultsAreRight → ClientsRunAlone
-    → Spells text schema → IsAlone job job → IsFreshRun text schema job run → IsRunAlone schema job run
-ran_alone text schema job run fresh one right alone spelled is ran =
+    → Spells text schema → CanRun job → AreOneAfterTheOther job.clients job.turns → IsFreshRun text schema job run → IsRunAlone schema job run
+ran_alone text schema job run fresh one right alone spelled can entries ran =
     let it = ran.is_run in
     let stands : StandsFor schema (fresh_list text all_pages) empty_graph = (fresh schema text all_pages spelled (omega arith) (omega arith)).1 in
-    let lone = alone job (first_moment 0) it.after (record { results = run.results; disk_failed = false }) is.runs is.entries (λ client. (refl, refl)) it.turns in
-    let each = right job (first_moment 0) it.after (record { results = run.results; disk_failed = false }) is.runs (λ client. (refl, refl)) it.turns in
+    let lone = alone job (first_moment 0) it.after (record { results = run.results; disk_failed = false }) can entries (λ client. (refl, refl)) it.turns in
+    let each = right job (first_moment 0) it.after (record { results = run.results; disk_failed = false }) can (λ client. (refl, refl)) it.turns in
     record {
       last = it.history.last_graph;
       ran = record {
@@ -115,6 +116,6 @@ ran_alone text schema job run fresh one right alone spelled is ran =
     }
 
 pub run_ran_alone : (text : List ℕ) (schema : Schema) (job : Job) (result : Result Run OutOfMemory) → LawOfFreshPages → LawOfOneGraph → ResultsAreRight → ClientsRunAlone
-    → Spells text schema → IsAlone job job → IfOk result (IsFreshRun text schema job) → IfOk result (IsRunAlone schema job)
-run_ran_alone text schema job (Ok run) fresh one right alone spelled is ran = ran_alone text schema job run fresh one right alone spelled is ran
-run_ran_alone text schema job (Err refused) fresh one right alone spelled is ran = tt
+    → Spells text schema → CanRun job → AreOneAfterTheOther job.clients job.turns → IfOk result (IsFreshRun text schema job) → IfOk result (IsRunAlone schema job)
+run_ran_alone text schema job (Ok run) fresh one right alone spelled can entries ran = ran_alone text schema job run fresh one right alone spelled can entries ran
+run_ran_alone text schema job (Err refused) fresh one right alone spelled can entries ran = tt

@@ -12,9 +12,11 @@ mod running;
 use given_up::is_any_given_up;
 use ostore_address_space::Mapper;
 use ostore_base::{OutOfMemory, Text};
+use ostore_job_text::Job;
 use ostore_run_report::{Tail, print_report};
 use ostore_try_input::{TryFault, TryInput, read_try_input, schema_part_of};
-use running::{run_alone, with_clients_alone};
+use ostore_turns::one_after_the_other;
+use running::run_alone;
 use std::alloc::Global;
 
 /// The report of a job that ran, and whether one of its transactions was given up.
@@ -41,7 +43,7 @@ pub(crate) fn try_text<M: Mapper>(
     }
 }
 
-// Runs an input, and prints what became of it.
+// Runs an input's clients one after the other, and prints what became of them.
 fn report_on<M: Mapper>(
     alloc: Global,
     text: &[u8],
@@ -53,7 +55,11 @@ fn report_on<M: Mapper>(
     ensures { IfOk result (λ reported. IsReportOf text.now reported.text reported.given_up) }
 {
     let TryInput { schema, job } = input;
-    let job = with_clients_alone(alloc, job)?;
+    let turns = one_after_the_other(alloc, &job)?;
+    let job = Job {
+        clients: job.clients,
+        turns,
+    };
     let run = run_alone(alloc, schema_part_of(text), &schema, &job, mapper)?;
     let tail = Tail {
         disk_fault_after: run.tail.disk_fault_after,

@@ -6,18 +6,10 @@ use Rattle.ostore_graph_model.specs.Graph.{Graph}
 use Rattle.ostore_graph_model.specs.History.{updates}
 use Rattle.ostore_schema_layout.specs.declared.schema.Schema.{Schema}
 use Rattle.ostore_job_text.specs.declared.job.Job.{Job}
-use Rattle.ostore_job_text.specs.RunnableJobs.{CanRun}
 use Rattle.ostore_run_report.specs.Results.{committed_of}
-use Rattle.ostore_turns.specs.Alone.{AreOneAfterTheOther}
 use Rattle.ostore_client_turns.specs.declared.run.Run.{Run}
 use Rattle.ostore_client_turns.specs.Runs.{IsRunOf, script_of}
 use Rattle.ostore_cli.specs.FreshRuns.{HasRun, all_pages}
-
--- the same clients, whose schedule lets them run one after the other
-pub record IsAlone (job alone : Job) : Type 0 where
-  pub clients : alone.clients ≡ job.clients
-  pub runs : CanRun alone
-  pub entries : AreOneAfterTheOther alone.clients alone.turns
 
 -- the job was run on fresh pages with the text of its schema
 pub record IsFreshRun (text : List ℕ) (schema : Schema) (job : Job) (run : Run) : Type 0 where

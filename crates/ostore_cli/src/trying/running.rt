@@ -11,9 +11,10 @@ ghost use Rattle.ostore_page_service.specs.Holding.{IsEmpty};
 ghost use Rattle.ostore_page_service.specs.Servers.{first_of, journal_of, opened_of, side_of, Serves};
 ghost use Rattle.ostore_job_text.specs.LawfulJob.{HasLawfulSettings};
 ghost use Rattle.ostore_job_text.specs.RunnableJobs.{CanRun};
+ghost use Rattle.ostore_turns.specs.Alone.{AreOneAfterTheOther};
 ghost use Rattle.ostore_client_turns.specs.Runs.{AreBuilt};
 ghost use Rattle.ostore_cli.specs.FreshRuns.{all_pages};
-ghost use Rattle.ostore_cli.specs.inside.Runs.{IsAlone, IsFreshRun, IsRunAlone};
+ghost use Rattle.ostore_cli.specs.inside.Runs.{IsFreshRun, IsRunAlone};
 
 use ostore_address_space::Mapper;
 use ostore_base::{MemDisk, OutOfMemory};
@@ -25,25 +26,13 @@ use ostore_page_service::SeqServer;
 use ostore_page_tags::fresh_pages;
 use ostore_redo_journal::counting::Journal;
 use ostore_schema_layout::Schema;
-use ostore_turns::{clients_run_alone, one_after_the_other, results_are_right};
+use ostore_turns::{clients_run_alone, results_are_right};
 use std::alloc::Global;
 
 /// How many pages the database has.
 const PAGES: u32 = 1024;
 
 type Server = SeqServer<GraphKind, MemDisk>;
-
-/// The job with a schedule in which its clients run one after the other, in job order.
-pub(crate) fn with_clients_alone(alloc: Global, job: Job) -> Result<Job, OutOfMemory>
-    requires { CanRun job }
-    ensures { IfOk result (λ alone. IsAlone job alone) }
-{
-    let turns = one_after_the_other(alloc, &job)?;
-    Ok(Job {
-        clients: job.clients,
-        turns,
-    })
-}
 
 /// A server of fresh pages in memory, with the text of their schema. Its journal only counts.
 fn fresh_server(alloc: Global, text: &[u8], schema: &Schema) -> Result<Server, OutOfMemory>
@@ -95,7 +84,8 @@ pub(crate) fn run_alone<M: Mapper>(
 ) -> Result<Run, OutOfMemory>
     requires spelled { Spells text.now schema.now }
     requires ints { IsOfInts schema.now }
-    requires alone { IsAlone job.now job.now }
+    requires job { CanRun job.now }
+    requires alone { AreOneAfterTheOther job.now.clients job.now.turns }
     requires settings { AllByRecursion HasLawfulSettings job.now.clients }
     requires built { AreBuilt job.now }
     ensures { IfOk result (IsRunAlone schema.now job.now) }
