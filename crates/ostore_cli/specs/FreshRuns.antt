@@ -1,5 +1,5 @@
 -- A job that runs on a fresh database, one client after the other.
-use Rattle.std.specs.Prelude.{◌≡◌, ◌⊎◌, ℕ, ◌<◌, ◌≤◌, Bool, true, false, List, Any, Some, option_and_then, slice_get}
+use Rattle.std.specs.Prelude.{◌≡◌, ℕ, ◌<◌, ◌≤◌, Bool, true, false, List}
 use Rattle.std.specs.List.{list_any, AllByRecursion}
 use Rattle.ostore_graph_model.specs.declared.commands.Txn.{Txn}
 use Rattle.ostore_graph_model.specs.declared.commands.Script.{Script}

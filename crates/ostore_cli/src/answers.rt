@@ -89,20 +89,21 @@ pub(crate) fn print_answer<K: Sink>(sink: &mut K, answer: Answer) -> u8
     }
 }
 
-// Status 7 where the report wasn't printed whole; else 1 where a transaction was given up, and 0 where none was.
+// The status of a report that was printed whole: 1 where a transaction was given up, and 0 where none was.
+fn report_status(given_up: bool) -> u8
+    ensures { result ≡ status_of given_up }
+{
+    if given_up { 1 } else { 0 }
+}
+
+// The status of a report, or 7 where it wasn't printed whole.
 fn print_reported<K: Sink>(sink: &mut K, reported: &Reported) -> u8
     ensures { IsReportPrint reported.now.text (status_of reported.now.given_up)
         (end_of K.written K.faults sink.old) (end_of K.written K.faults sink.new) result }
 {
     match write_whole(sink, reported.text.bytes()) {
+        Ok(()) => report_status(reported.given_up),
         Err(_) => 7,
-        Ok(()) => {
-            if reported.given_up {
-                1
-            } else {
-                0
-            }
-        }
     }
 }
 

@@ -169,9 +169,11 @@ fn the_longest_text(rt: HostRuntime) -> Result<(), Fail> {
 }
 
 /// Three clients that change and read each other's objects, in several segments.
-const THREE: &str = "type Part\nid int\nsize int\njob\nclient a\nbegin\nnew $p Part 1\nset $p.id 7\nnew $q Part 200\nset $q.size 8\ncommit\nread\nget $p.id\ncommit\nclient b\nbegin\nnew $p Part 1\nset $p.id 9\nget $p.size\nabort\nbegin\nnew $p Part 1\nset $p.size -1\nget $p.size\ncommit\nclient c\nread\ncommit\nbegin\nnew $r Part 200\nget $r.id\nset $r.id 5\nget $r.id\ncommit\n";
+const THREE: &str =
+    "type Part\nid int\nsize int\njob\nclient a\nbegin\nnew $p Part 1\nset $p.id 7\nnew $q Part 200\nset $q.size 8\ncommit\nread\nget $p.id\ncommit\nclient b\nbegin\nnew $p Part 1\nset $p.id 9\nget $p.size\nabort\nbegin\nnew $p Part 1\nset $p.size -1\nget $p.size\ncommit\nclient c\nread\ncommit\nbegin\nnew $r Part 200\nget $r.id\nset $r.id 5\nget $r.id\ncommit\n";
 
-const THREE_REPORTED: &str = "a.1 commit 1\n  1.1\n  ok\n  200.1\n  ok\na.2 read 1\n  refused 1 NoVariable\nb.1 abort\nb.2 commit 2\n  1.2\n  ok\n  -1\nc.1 read 2\nc.2 commit 3\n  200.2\n  0\n  ok\n  5\ncommits 3\n";
+const THREE_REPORTED: &str =
+    "a.1 commit 1\n  1.1\n  ok\n  200.1\n  ok\na.2 read 1\n  refused 1 NoVariable\nb.1 abort\nb.2 commit 2\n  1.2\n  ok\n  -1\nc.1 read 2\nc.2 commit 3\n  200.2\n  0\n  ok\n  5\ncommits 3\n";
 
 #[test]
 fn each_mapper_gives_the_same_bytes(rt: HostRuntime) -> Result<(), Fail> {

@@ -40,8 +40,12 @@ fn another_segment_finds_no_page(rt: HostRuntime) -> Result<(), Fail> {
         text.push_str("new $p Part 7\n")?;
         write!(report, "  7.{serial}\n")?;
     }
-    text.push_str("commit\nbegin\nnew $q Part 255\ncommit\nread\nget $p.m0\ncommit\nbegin\ncommit\n")?;
-    report.push_str("a.2 gaveup 1 nospace 255 264\na.3 read 1\n  refused 1 NoVariable\na.4 commit 2\ncommits 2\n")?;
+    text.push_str(
+        "commit\nbegin\nnew $q Part 255\ncommit\nread\nget $p.m0\ncommit\nbegin\ncommit\n",
+    )?;
+    report.push_str(
+        "a.2 gaveup 1 nospace 255 264\na.3 read 1\n  refused 1 NoVariable\na.4 commit 2\ncommits 2\n",
+    )?;
     expect_run(&rt, rt.alloc(), text.as_str(), 1, report.as_str())
 }
 
