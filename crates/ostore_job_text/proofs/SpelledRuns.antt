@@ -1,7 +1,7 @@
 -- A job that a text spells can be run: each line of its transactions is a line of the text, and each line of the text
 -- that has words has a byte.
-use Rattle.std.proofs.Common.{◌≡◌, ◌+◌, ◌≤◌, ℕ, Bool, true, false, ltb, eqb, cond, List, [], ◌∷◌, ◌++◌, length, map, filter, refl, sym, ap, ◌∙◌, arith}
-use Rattle.std.specs.List.{AllByRecursion, slice_split, sum_by, flat_map, count_by}
+use Rattle.std.proofs.Common.{◌≡◌, ◌+◌, ◌≤◌, ℕ, Bool, true, false, ltb, eqb, cond, List, [], ◌∷◌, length, map, filter, refl, ap, arith}
+use Rattle.std.specs.List.{AllByRecursion, slice_split, sum_by, flat_map}
 use Rattle.std.proofs.lemmas.List.{length-map, length-append}
 use Rattle.std.proofs.lemmas.List.Sums.{sum_by-cons}
 use Rattle.std.proofs.lemmas.List.Splits.{length-slice_split}

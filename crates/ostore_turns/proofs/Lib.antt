@@ -1,3 +1,10 @@
 pub mod PlaceLaws
 pub mod TakeLaws
 pub mod RunLaws
+pub mod WalkLaws
+pub mod RightLaws
+pub mod RecordedLaws
+pub mod EntryLaws
+pub mod AloneLaws
+pub mod SerialLaws
+pub mod DiskLaws

@@ -6,14 +6,14 @@ use Rattle.std.proofs.lemmas.Bool.{ltb-true, false≢true}
 use Rattle.std.proofs.lemmas.Option.{none-some, same_Some, slice_get_within}
 use Rattle.ostore_graph_model.specs.declared.commands.Txn.{Txn}
 use Rattle.ostore_job_text.specs.declared.job.JobClient.{JobClient}
+use Rattle.ostore_job_text.specs.RunnableJobs.{IsWithinLimits, lines_of}
 use Rattle.ostore_run_report.specs.declared.results.Cause.{Cause}
 use Rattle.ostore_run_report.specs.declared.results.Cause.TheVariants.{Busy, NoSpace, CacheFull, SpaceFull, Disk, Stopped}
 use Rattle.ostore_turns.specs.declared.attempts.Gave.{Gave}
 use Rattle.ostore_turns.specs.declared.attempts.Gave.TheVariants.{Going, Committed, Aborted, Failed}
 use Rattle.ostore_turns.specs.declared.place.Place.{Place}
-use Rattle.ostore_turns.specs.Places.{Moment, lines_of, HasRoom, is_retried, moved, next_line, next_attempt, next_txn}
+use Rattle.ostore_turns.specs.Places.{Moment, HasRoom, is_retried, moved, next_line, next_attempt, next_txn}
 use Rattle.ostore_turns.specs.LawfulTurns.{MayGive}
-use Rattle.ostore_turns.specs.Runs.{IsWithinLimits}
 use Rattle.ostore_turns.specs.inside.Steps.{IsFitPlace, rank}
 
 -- there are no more transactions than lines

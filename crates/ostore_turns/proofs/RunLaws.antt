@@ -9,15 +9,19 @@ use Rattle.std.proofs.lemmas.Option.{none-some, same_Some, slice_get_past, slice
 use Rattle.ostore_job_text.specs.declared.job.Job.{Job}
 use Rattle.ostore_job_text.specs.declared.job.JobClient.{JobClient}
 use Rattle.ostore_job_text.specs.declared.job.JobTurn.{JobTurn}
+use Rattle.ostore_job_text.specs.RunnableJobs.{IsWithinLimits}
+use Rattle.ostore_job_text.proofs.OptionTaken.{all_join}
 use Rattle.ostore_run_report.specs.declared.results.TxnResult.{TxnResult}
+use Rattle.ostore_run_report.specs.declared.results.TxnResult.TheVariants.{NotRun}
 use Rattle.ostore_turns.specs.declared.place.Place.{Place}
 use Rattle.ostore_turns.specs.declared.running.Run.{Run}
 use Rattle.ostore_turns.specs.declared.seat.Seat.{Seat}
 use Rattle.ostore_turns.specs.Places.{Moment, HasLine, first_place}
-use Rattle.ostore_turns.specs.Runs.{IsWithinLimits, HasEnded, IsRunBy, IsFirst}
+use Rattle.ostore_turns.specs.Bounds.{Bounds, IsResultWithin, AreBounded}
+use Rattle.ostore_turns.specs.Runs.{HasEnded, IsRunBy, IsFirst}
 use Rattle.ostore_turns.specs.Schedules.{Turn, entry_clients, client_or, scheduled}
 use Rattle.ostore_turns.specs.TurnResults.{ended_by, results_of, results_from, with_not_run}
-use Rattle.ostore_turns.specs.inside.Steps.{IsFitPlace, AreSeated, AreUpTo, HasCome, Passes, IsIdle, IsOneTurn, AreTurns, first_seat, rank, spent, results_in}
+use Rattle.ostore_turns.specs.inside.Steps.{IsFitPlace, AreSeated, AreWithin, AreUpTo, HasCome, Passes, IsIdle, IsOneTurn, AreTurns, first_seat, rank, spent, results_in}
 use Rattle.ostore_turns.proofs.PlaceLaws.{rank_low}
 use Rattle.ostore_turns.proofs.TakeLaws.{Went, Stayed, come_more, stayed_come, stayed_idle}
 
@@ -74,11 +78,11 @@ passes_idle job count most number before now old run first low idle opened n is 
 
 -- ---- whose places they are
 
-get_past : {X : Type 0} (xs ys : List X) (k : ℕ) → slice_get (xs ++ ys) (length xs + k) ≡ slice_get ys k
+pub get_past : {X : Type 0} (xs ys : List X) (k : ℕ) → slice_get (xs ++ ys) (length xs + k) ≡ slice_get ys k
 get_past [] ys k = ap (slice_get ys) (let e : 0 + k ≡ k = omega arith in e)
 get_past (x ∷ xs) ys k = ap (slice_get (x ∷ xs ++ ys)) (let e : length (x ∷ xs) + k ≡ suc (length xs + k) = omega arith in e) ∙ get_past xs ys k
 
-get_repeated : {X : Type 0} (count : ℕ) (x : X) (ys : List X) (k : ℕ) → k < count → slice_get (replicate count x ++ ys) k ≡ Some x
+pub get_repeated : {X : Type 0} (count : ℕ) (x : X) (ys : List X) (k : ℕ) → k < count → slice_get (replicate count x ++ ys) k ≡ Some x
 get_repeated zero x ys k low = absurd (omega arith)
 get_repeated (suc count) x ys zero low = refl
 get_repeated (suc count) x ys (suc k) low = get_repeated count x ys k (omega arith)
@@ -163,13 +167,13 @@ limits_get (first ∷ clients) (suc i) client all there = limits_get clients i c
 pub limits_at : (clients : List JobClient) (i : ℕ) (client : JobClient) → AllByRecursion IsWithinLimits clients → slice_get clients i ≡ Some client → IsWithinLimits client
 limits_at = limits_get
 
-first_fits : (client : JobClient) (at : Place) → at ≡ first_place → IsWithinLimits client → IsFitPlace client at
+pub first_fits : (client : JobClient) (at : Place) → at ≡ first_place → IsWithinLimits client → IsFitPlace client at
 first_fits client at first limits = subst (IsFitPlace client) (sym first) (let some = limits.some in record { low = omega arith; tries = omega arith; short = omega arith; line = λ txn there. omega arith })
 
 pub first_seated : (clients : List JobClient) (now : Moment) (run : Run) → IsFirst now → run.seats.items ≡ replicate (length clients) first_seat → AllByRecursion IsWithinLimits clients → AreSeated clients now run
 first_seated clients now run first seats limits = record {
   long = ap length seats ∙ length-replicate (length clients) first_seat;
-  places = λ i seat there. ap (λ (s : Seat). s.place) (sym (first_at (length clients) i run.seats.items seat seats there)) ∙ sym (first i);
+  places = λ i seat there. ap (λ (s : Seat). s.place) (sym (first_at (length clients) i run.seats.items seat seats there)) ∙ sym (first i).0;
   fit = λ i client seat is_client is_seat. first_fits client seat.place (ap (λ (s : Seat). s.place) (sym (first_at (length clients) i run.seats.items seat seats is_seat))) (limits_get clients i client limits is_client);
 }
 
@@ -202,6 +206,30 @@ results_all number (client ∷ clients) (seat ∷ seats) turns long have =
     (λ i c s is_c is_s. have (suc i) c s is_c is_s ∙ ap (λ (m : ℕ). ended_by m c turns) (let e : number + suc i ≡ number + 1 + i = omega arith in e)) in
     ap (λ (results : List TxnResult). with_not_run (length client.txns) results ∷ results_in clients seats) head
     ∙ ap (λ (results : List (List TxnResult)). results_of number client turns ∷ results) rest)
+
+not_run_within : (bounds : Bounds) (client : JobClient) (count : ℕ) → AllByRecursion (IsResultWithin bounds client) (replicate count NotRun)
+not_run_within bounds client zero = tt
+not_run_within bounds client (suc count) = (tt, not_run_within bounds client count)
+
+bounded_all : (bounds : Bounds) (clients : List JobClient) (seats : List Seat) → length seats ≡ length clients
+    → ((i : ℕ) (client : JobClient) (seat : Seat) → slice_get clients i ≡ Some client → slice_get seats i ≡ Some seat → AllByRecursion (IsResultWithin bounds client) seat.results)
+    → AreBounded bounds clients (results_in clients seats)
+bounded_all bounds [] [] long within = tt
+bounded_all bounds [] (seat ∷ seats) long within = absurd (omega (arith, long))
+bounded_all bounds (client ∷ clients) [] long within = absurd (omega (arith, long))
+bounded_all bounds (client ∷ clients) (seat ∷ seats) long within = (
+  all_join (IsResultWithin bounds client) seat.results (replicate (length client.txns - length seat.results) NotRun) (within 0 client seat refl refl) (not_run_within bounds client (length client.txns - length seat.results)),
+  bounded_all bounds clients seats (omega (arith, long)) (λ i c s is_c is_s. within (suc i) c s is_c is_s),
+)
+
+-- what became of all transactions is within the bounds
+pub are_bounded : (bounds : Bounds) (clients : List JobClient) (now : Moment) (run : Run) (results : List (List TxnResult)) → AreSeated clients now run → AreWithin bounds clients run
+    → results ≡ results_in clients run.seats.items → AreBounded bounds clients results
+are_bounded bounds clients now run results seated within are = subst (AreBounded bounds clients) (sym are) (bounded_all bounds clients run.seats.items seated.long within)
+
+pub first_within : (bounds : Bounds) (clients : List JobClient) (run : Run) → run.seats.items ≡ replicate (length clients) first_seat → AreWithin bounds clients run
+first_within bounds clients run seats i client seat is_client is_seat =
+    subst (λ (s : Seat). AllByRecursion (IsResultWithin bounds client) s.results) (first_at (length clients) i run.seats.items seat seats is_seat) tt
 
 has_ended : (job : Job) (stopped : Bool) (turns : List Turn) (end n : ℕ) (now : Moment) → ((number : ℕ) → number < length job.clients → (stopped ≡ true) ⊎ (HasLine job.clients now number → ⊥))
     → AreUpTo job stopped turns end n now → HasEnded job stopped turns now
@@ -238,7 +266,7 @@ spent_few (seat ∷ seats) low =
     let all : sum_by (λ (seat : Seat). rank seat.place) (seat ∷ seats) ≡ rank seat.place + sum_by (λ (seat : Seat). rank seat.place) seats = sum_by-cons (λ (seat : Seat). rank seat.place) seat seats in
     omega (arith, first, rest, all))
 
-has_client : (clients : List JobClient) (i : ℕ) → i < length clients → (client : JobClient) × (slice_get clients i ≡ Some client)
+pub has_client : (clients : List JobClient) (i : ℕ) → i < length clients → (client : JobClient) × (slice_get clients i ≡ Some client)
 has_client [] i low = absurd (omega arith)
 has_client (client ∷ clients) zero low = (client, refl)
 has_client (client ∷ clients) (suc i) low = has_client clients i (omega arith)

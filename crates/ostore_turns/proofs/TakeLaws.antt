@@ -10,22 +10,28 @@ use Rattle.std.proofs.lemmas.List.Sums.{sum_by-set}
 use Rattle.std.proofs.lemmas.Option.{none-some, same_Some, slice_get_within, get_or_from_slice_get}
 use Rattle.ostore_graph_model.proofs.RecordLaws.{set-itself}
 use Rattle.ostore_graph_model.proofs.AddressLaws.{slice_get-set_same, slice_get-set_other}
+use Rattle.ostore_graph_model.proofs.Kept.Parts.{all_append}
 use Rattle.ostore_graph_model.specs.declared.commands.Txn.{Txn}
+use Rattle.ostore_graph_model.specs.declared.values.Reply.{Reply}
 use Rattle.ostore_job_text.specs.declared.job.Job.{Job}
 use Rattle.ostore_job_text.specs.declared.job.JobClient.{JobClient}
+use Rattle.ostore_job_text.specs.RunnableJobs.{IsWithinLimits}
+use Rattle.ostore_run_report.specs.declared.results.Cause.{Cause}
 use Rattle.ostore_run_report.specs.declared.results.TxnResult.{TxnResult}
+use Rattle.ostore_run_report.specs.declared.results.TxnResult.TheVariants.{Abort, GaveUp}
 use Rattle.ostore_turns.specs.declared.attempts.Gave.{Gave}
+use Rattle.ostore_turns.specs.declared.attempts.Gave.TheVariants.{Going, Committed, Aborted, Failed}
 use Rattle.ostore_turns.specs.declared.place.Place.{Place}
 use Rattle.ostore_turns.specs.declared.running.Run.{Run}
 use Rattle.ostore_turns.specs.declared.running.Took.{Took}
 use Rattle.ostore_turns.specs.declared.running.Took.TheVariants.{NoTurn, OneTurn, LastTurn}
 use Rattle.ostore_turns.specs.declared.seat.Seat.{Seat}
-use Rattle.ostore_turns.specs.Places.{Moment, HasLine, moved}
+use Rattle.ostore_turns.specs.Places.{Moment, HasLine, is_retried, moved}
 use Rattle.ostore_turns.specs.LawfulTurns.{StopsRun, Turns, moved_one}
-use Rattle.ostore_turns.specs.Runs.{IsWithinLimits}
+use Rattle.ostore_turns.specs.Bounds.{Bounds, IsBounded, GivesWithin, IsResultWithin}
 use Rattle.ostore_turns.specs.Schedules.{Turn, IsNextTurn, Takes, scheduled}
-use Rattle.ostore_turns.specs.TurnResults.{result_by, result_at, ended_by}
-use Rattle.ostore_turns.specs.inside.Steps.{IsFitPlace, and_maybe, GoesOn, IsTaken, AreSeated, AreUpTo, HasCome, IsIdle, rank, spent}
+use Rattle.ostore_turns.specs.TurnResults.{committed_as, result_by, result_at, ended_by}
+use Rattle.ostore_turns.specs.inside.Steps.{IsFitPlace, and_maybe, GoesOn, IsTaken, AreSeated, AreWithin, AreUpTo, HasCome, IsIdle, rank, spent}
 use Rattle.ostore_turns.proofs.PlaceLaws.{FitsLater, moved_fits}
 
 -- after turns at which no disk call failed, one more is taken
@@ -57,15 +63,15 @@ onto : (results : List TxnResult) (ended : Option TxnResult) → results ++ cons
 onto results None = append-nil results
 onto results (Some one) = refl
 
-ended_more : (number : ℕ) (client : JobClient) (turns : List Turn) (turn : Turn) → ended_by number client (turns ++ turn ∷ []) ≡ and_maybe (ended_by number client turns) (result_at number client turn)
+pub ended_more : (number : ℕ) (client : JobClient) (turns : List Turn) (turn : Turn) → ended_by number client (turns ++ turn ∷ []) ≡ and_maybe (ended_by number client turns) (result_at number client turn)
 ended_more number client turns turn = filter_map-append (result_at number client) turns (turn ∷ []) ∙ onto (ended_by number client turns) (result_at number client turn)
 
-result_mine : (number : ℕ) (client : JobClient) (txn : Txn) (turn : Turn) → turn.client ≡ number → slice_get client.txns turn.at.txn ≡ Some txn → result_at number client turn ≡ result_by txn.update client.tries turn.at turn.gave
+pub result_mine : (number : ℕ) (client : JobClient) (txn : Txn) (turn : Turn) → turn.client ≡ number → slice_get client.txns turn.at.txn ≡ Some txn → result_at number client turn ≡ result_by txn.update client.tries turn.at turn.gave
 result_mine number client txn turn mine there =
     ap (λ (b : Bool). cond b (option_and_then (λ (txn : Txn). result_by txn.update client.tries turn.at turn.gave) (slice_get client.txns turn.at.txn)) None) (eq-eqb turn.client number mine)
     ∙ ap (option_and_then (λ (txn : Txn). result_by txn.update client.tries turn.at turn.gave)) there
 
-result_other : (number : ℕ) (client : JobClient) (turn : Turn) → turn.client ≢ number → result_at number client turn ≡ None
+pub result_other : (number : ℕ) (client : JobClient) (turn : Turn) → turn.client ≢ number → result_at number client turn ≡ None
 result_other number client turn apart = elim (eqb_tells turn.client number) [
   | inl same ↦ absurd (apart same.1)
   | inr other ↦ ap (λ (b : Bool). cond b (option_and_then (λ (txn : Txn). result_by txn.update client.tries turn.at turn.gave) (slice_get client.txns turn.at.txn)) None) other.0
@@ -137,10 +143,10 @@ come_more job opened n before after old new number went seated whose come =
 
 -- ---- its seat
 
-moved_here : (number tries : ℕ) (gave : Gave) (places : ℕ → Place) → moved_one number tries gave places number ≡ moved tries (places number) gave
+pub moved_here : (number tries : ℕ) (gave : Gave) (places : ℕ → Place) → moved_one number tries gave places number ≡ moved tries (places number) gave
 moved_here number tries gave places = ap (λ (b : Bool). cond b (moved tries (places number) gave) (places number)) (eq-eqb number number refl)
 
-moved_other : (number tries other : ℕ) (gave : Gave) (places : ℕ → Place) → other ≢ number → moved_one number tries gave places other ≡ places other
+pub moved_other : (number tries other : ℕ) (gave : Gave) (places : ℕ → Place) → other ≢ number → moved_one number tries gave places other ≡ places other
 moved_other number tries other gave places apart = elim (eqb_tells other number) [
   | inl same ↦ absurd (apart same.1)
   | inr differs ↦ ap (λ (b : Bool). cond b (moved tries (places other) gave) (places other)) differs.0
@@ -258,3 +264,45 @@ pub went_last : (clients others : List JobClient) (before after : Moment) (old n
 went_last clients others before after old new number client seat next took there sits goes seats stopped same is taken =
     let last : IsTaken client number LastTurn seat next clients before after = subst (λ (l : List JobClient). IsTaken client number LastTurn seat next l before after) same (subst (λ (x : Took). IsTaken client number x seat next others before after) is taken) in
     record { client = client; seat = seat; next = next; gave = last.0; there = there; sits = sits; goes = goes; on = last.2; seats = seats; stops = subst (λ (b : Bool). StopsSo b last.0) (sym stopped) last.1 }
+
+-- ---- what became of its transactions
+
+committed_within : (bounds : Bounds) (client : JobClient) (update : Bool) (number tries : ℕ) (replies : List Reply) → IsResultWithin bounds client (committed_as update number tries replies)
+committed_within bounds client true number tries replies = tt
+committed_within bounds client false number tries replies = tt
+
+failed_within : (bounds : Bounds) (client : JobClient) (tries : ℕ) (cause : Cause) (retried : Bool) (found : TxnResult) → IsBounded bounds client cause → cond retried None (Some (GaveUp tries cause)) ≡ Some found → IsResultWithin bounds client found
+failed_within bounds client tries cause true found bounded is = absurd (none-some found is)
+failed_within bounds client tries cause false found bounded is = subst (IsResultWithin bounds client) (same_Some (GaveUp tries cause) found is) bounded
+
+result_within : (bounds : Bounds) (clients : List JobClient) (number : ℕ) (client : JobClient) (update : Bool) (tries : ℕ) (at : Place) (gave : Gave) (found : TxnResult)
+    → slice_get clients number ≡ Some client → GivesWithin bounds clients number gave → result_by update tries at gave ≡ Some found → IsResultWithin bounds client found
+result_within bounds clients number client update tries at Going found there within is = absurd (none-some found is)
+result_within bounds clients number client update tries at (Committed commit replies) found there within is =
+    subst (IsResultWithin bounds client) (same_Some (committed_as update commit (at.failed + 1) replies) found is) (committed_within bounds client update commit (at.failed + 1) replies)
+result_within bounds clients number client update tries at Aborted found there within is = subst (IsResultWithin bounds client) (same_Some (Abort (at.failed + 1)) found is) tt
+result_within bounds clients number client update tries at (Failed cause) found there within is =
+    failed_within bounds client (at.failed + 1) cause (is_retried tries at cause) found (within client there) is
+
+maybe_within : (bounds : Bounds) (client : JobClient) (results : List TxnResult) (ended : Option TxnResult) → AllByRecursion (IsResultWithin bounds client) results
+    → ((found : TxnResult) → ended ≡ Some found → IsResultWithin bounds client found) → AllByRecursion (IsResultWithin bounds client) (and_maybe results ended)
+maybe_within bounds client results None within one = within
+maybe_within bounds client results (Some found) within one = all_append (IsResultWithin bounds client) results found within (one found refl)
+
+-- what a client's seat has is within the bounds when its next line gave this
+pub gave_within : (bounds : Bounds) (clients : List JobClient) (number : ℕ) (client : JobClient) (update : Bool) (at : Place) (gave : Gave) (results : List TxnResult)
+    → slice_get clients number ≡ Some client → GivesWithin bounds clients number gave → AllByRecursion (IsResultWithin bounds client) results
+    → AllByRecursion (IsResultWithin bounds client) (and_maybe results (result_by update client.tries at gave))
+gave_within bounds clients number client update at gave results there gives within =
+    maybe_within bounds client results (result_by update client.tries at gave) within (λ found is. result_within bounds clients number client update client.tries at gave found there gives is)
+
+-- and so is what each seat has when one was replaced
+pub within_set : (bounds : Bounds) (clients : List JobClient) (old new : Run) (number : ℕ) (client : JobClient) (seat next : Seat) → slice_get clients number ≡ Some client → slice_get old.seats.items number ≡ Some seat
+    → new.seats.items ≡ set old.seats.items number next → AllByRecursion (IsResultWithin bounds client) next.results → AreWithin bounds clients old → AreWithin bounds clients new
+within_set bounds clients old new number client seat next there sits seats within all i c s is_c is_s = elim (cases_eq i number) [
+  | inl same ↦
+      (let own : client ≡ c = same_Some client c (sym there ∙ (ap (slice_get clients) (sym same) ∙ is_c)) in
+      let mine : next ≡ s = same_Some next s (sym (slice_get-set_same old.seats.items number next (slice_get_within old.seats.items number seat sits)) ∙ (ap (slice_get (set old.seats.items number next)) (sym same) ∙ (ap (λ (l : List Seat). slice_get l i) (sym seats) ∙ is_s))) in
+      subst (λ (x : Seat). AllByRecursion (IsResultWithin bounds c) x.results) mine (subst (λ (x : JobClient). AllByRecursion (IsResultWithin bounds x) next.results) own within))
+  | inr apart ↦ all i c s is_c (sym (slice_get-set_other old.seats.items number i next apart) ∙ (ap (λ (l : List Seat). slice_get l i) (sym seats) ∙ is_s))
+]

@@ -1,7 +1,7 @@
 -- What a turn may give, and what it leaves.
 use Rattle.std.specs.Prelude.{◌≡◌, ◌≢◌, ◌≤◌, ◌+◌, ◌⊎◌, ◌==◌, ℕ, Bool, true, false, if◌then◌else◌, List, [], ◌∷◌, ◌++◌, length}
 use Rattle.ostore_graph_model.specs.declared.commands.Txn.{Txn}
-use Rattle.ostore_graph_model.specs.declared.history.Committed.{Committed}
+use Rattle.ostore_graph_model.specs.declared.history.Committed.{Committed as Recorded}
 use Rattle.ostore_job_text.specs.declared.job.JobClient.{JobClient}
 use Rattle.ostore_job_text.specs.RunnableJobs.{lines_of}
 use Rattle.ostore_run_report.specs.declared.results.Cause.{Cause}
@@ -73,12 +73,12 @@ abbrev pub moved_one : ℕ → ℕ → Gave → (ℕ → Place) → ℕ → Plac
 moved_one number tries gave places other = if other == number then moved tries (places other) gave else places other
 
 -- a client's records then: one more where its transaction was committed
-abbrev pub records_then : ℕ → Place → Bool → Gave → List Committed → List Committed
+abbrev pub records_then : ℕ → Place → Bool → Gave → List Recorded → List Recorded
 records_then number at update (Committed commit replies) records = records ++ committed_as number (at.txn + 1) update commit replies ∷ []
 records_then number at update other records = records
 
 -- the client of the turn may have one more, and the others have what they had
-abbrev pub recorded_one : ℕ → Place → Bool → Gave → (ℕ → List Committed) → ℕ → List Committed
+abbrev pub recorded_one : ℕ → Place → Bool → Gave → (ℕ → List Recorded) → ℕ → List Recorded
 recorded_one number at update gave records other =
     if other == number then records_then number at update gave (records other) else records other
 

@@ -2,7 +2,7 @@
 use Rattle.std.specs.Prelude.{◌≡◌, ◌<◌, ◌+◌, ◌^◌, ℕ, Bool, false, nat_lt, if◌then◌else◌, List, Some}
 use Rattle.std.specs.List.{slice_get}
 use Rattle.ostore_graph_model.specs.declared.commands.Txn.{Txn}
-use Rattle.ostore_graph_model.specs.declared.history.Committed.{Committed}
+use Rattle.ostore_graph_model.specs.declared.history.Committed.{Committed as Recorded}
 use Rattle.ostore_job_text.specs.declared.job.JobClient.{JobClient}
 use Rattle.ostore_job_text.specs.RunnableJobs.{lines_of}
 use Rattle.ostore_run_report.specs.declared.results.Cause.{Cause}
@@ -48,10 +48,10 @@ pub record HasRoom (at : Place) : Type 0 where
 -- where each client is, by its number, what it has committed, in that order, and the number of the last commit
 pub record Moment : Type 0 where
   pub places : ℕ → Place
-  pub records : ℕ → List Committed
+  pub records : ℕ → List Recorded
   pub commits : ℕ
 
-abbrev pub moment_of : (ℕ → Place) → (ℕ → List Committed) → ℕ → Moment
+abbrev pub moment_of : (ℕ → Place) → (ℕ → List Recorded) → ℕ → Moment
 moment_of places records commits = record { places = places; records = records; commits = commits }
 
 -- the client is in this transaction of its script

@@ -1,7 +1,7 @@
 -- What the results of a run by turns say, whatever the turns were.
-use Rattle.std.specs.Prelude.{◌≡◌, ◌≤◌, ◌==◌, ℕ, Bool, true, false, List, filter}
+use Rattle.std.specs.Prelude.{◌≡◌, ◌≤◌, ℕ, Bool, true, false, if◌then◌else◌, List, length, filter, Some}
+use Rattle.std.specs.List.{slice_get, sum_by}
 use Rattle.ostore_graph_model.specs.declared.commands.Txn.{Txn}
-use Rattle.ostore_graph_model.specs.declared.history.Committed.{Committed}
 use Rattle.ostore_job_text.specs.RunnableJobs.{CanRun}
 use Rattle.ostore_job_text.specs.declared.job.Job.{Job}
 use Rattle.ostore_job_text.specs.declared.job.JobClient.{JobClient}
@@ -9,7 +9,7 @@ use Rattle.ostore_run_report.specs.declared.results.Cause.{Cause}
 use Rattle.ostore_run_report.specs.declared.results.Cause.TheVariants.{Busy, NoSpace, CacheFull, SpaceFull, Disk, Stopped}
 use Rattle.ostore_run_report.specs.declared.results.TxnResult.{TxnResult}
 use Rattle.ostore_run_report.specs.declared.results.TxnResult.TheVariants.{Commit, Read, Abort, GaveUp, NotRun}
-use Rattle.ostore_run_report.specs.Results.{committed_of}
+use Rattle.ostore_run_report.specs.Results.{committed_from}
 use Rattle.ostore_turns.specs.declared.running.TurnsRun.{TurnsRun}
 use Rattle.ostore_turns.specs.Places.{Moment}
 use Rattle.ostore_turns.specs.TurnResults.{AllByClient, AllByTxn}
@@ -48,12 +48,38 @@ abbrev pub ResultsAreRight : Type 0
 ResultsAreRight = (job : Job) (first after : Moment) (run : TurnsRun) → CanRun job → IsFirst first → IsRunBy job first after run
     → AreRight job run
 
+-- ---- disk calls that failed
+
+-- the transaction was given up as a disk call failed
+abbrev pub is_disk_fault : TxnResult → Bool
+is_disk_fault (Commit number tries replies) = false
+is_disk_fault (Read number tries replies) = false
+is_disk_fault (Abort tries) = false
+is_disk_fault (GaveUp tries (Busy page seen found)) = false
+is_disk_fault (GaveUp tries (NoSpace segment need)) = false
+is_disk_fault (GaveUp tries (CacheFull used capacity)) = false
+is_disk_fault (GaveUp tries (SpaceFull frames)) = false
+is_disk_fault (GaveUp tries Disk) = true
+is_disk_fault (GaveUp tries (Stopped after)) = false
+is_disk_fault NotRun = false
+
+-- how many were
+abbrev pub disk_faults : List (List TxnResult) → ℕ
+disk_faults results = sum_by (λ mine. length (filter is_disk_fault mine)) results
+
+-- exactly one where a disk call failed, and none else
+abbrev pub DiskFaultsAreTold : Type 0
+DiskFaultsAreTold = (job : Job) (first after : Moment) (run : TurnsRun) → IsRunBy job first after run
+    → disk_faults run.results ≡ (if run.disk_failed then 1 else 0)
+
 -- ---- the records of the last moment
 
--- each client's records are those of the committed transactions that are its own
-abbrev pub AreRecords : Moment → TurnsRun → Type 0
-AreRecords after run = (client : ℕ) → after.records client ≡ filter (λ one. one.entry.client.0 == client) (committed_of run.results)
+-- There is one list of results for each client, and its records are the commits and reads that these tell.
+pub record AreRecords (job : Job) (after : Moment) (results : List (List TxnResult)) : Type 0 where
+  pub of_each : length results ≡ length job.clients
+  pub committed : (client : ℕ) (mine : List TxnResult) → slice_get results client ≡ Some mine
+      → after.records client ≡ committed_from client 1 mine
 
 abbrev pub ResultsAreRecords : Type 0
-ResultsAreRecords = (job : Job) (first after : Moment) (run : TurnsRun) → CanRun job → IsFirst first → IsRunBy job first after run
-    → AreRecords after run
+ResultsAreRecords = (job : Job) (first after : Moment) (run : TurnsRun) → IsFirst first → IsRunBy job first after run
+    → AreRecords job after run.results

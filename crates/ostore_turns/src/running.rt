@@ -1,6 +1,6 @@
 //! The turns of a job's schedule.
 
-ghost use Rattle.std.specs.Prelude.{◌≡◌, ◌<◌, false, IfOk, Some, length, replicate};
+ghost use Rattle.std.specs.Prelude.{◌≡◌, ◌<◌, true, false, IfOk, Some, length, replicate};
 ghost use Rattle.std.specs.List.{slice_get};
 ghost use Rattle.std.specs.List.{AllByRecursion};
 ghost use Rattle.ostore_job_text.specs.RunnableJobs.{CanRun, IsWithinLimits};
@@ -239,6 +239,8 @@ pub fn take_turns<S: Attempts>(
     ensures run { IfOk result (IsRunBy job.now (S.moment store.old) (S.moment store.new)) }
     ensures bounded { IfOk result (λ run.
         AreBounded (S.bounds (S.constants store.old)) job.now.clients run.results) }
+    ensures failed { IfOk result (λ run.
+        run.disk_failed ≡ true → (S.bounds (S.constants store.old)).fails) }
     ensures ready { IfOk result (λ _run. S.ready store.new) }
     ensures clients { S.clients store.new ≡ S.clients store.old }
     ensures constants { S.constants store.new ≡ S.constants store.old }

@@ -1,10 +1,14 @@
-use Rattle.std.proofs.Common.{◌<◌, ap, sym, subst, ◌∙◌, length, List}
+use Rattle.std.proofs.Common.{◌≡◌, ◌<◌, ap, sym, subst, ◌∙◌, length, List}
+use Rattle.std.specs.List.{AllByRecursion}
 use Rattle.std.proofs.lemmas.Bool.{false≢true}
 use Rattle.ostore_graph_model.specs.declared.commands.Txn.{Txn}
+use Rattle.ostore_turns.specs.Bounds.{GivesWithin, IsResultWithin}
+use Rattle.ostore_turns.specs.TurnResults.{result_by}
 use Rattle.ostore_turns.specs.inside.Steps.{IsTaken, GoesOn, and_maybe}
 use Rattle.ostore_turns.specs.declared.running.Took.{Took}
 use Rattle.ostore_turns.proofs.PlaceLaws.{has_room}
 use Rattle.ostore_turns.proofs.RunLaws.{there_of}
+use Rattle.ostore_turns.proofs.TakeLaws.{gave_within}
 use Rattle.ostore_turns.proofs.running.execute_next.Goals as goal
 use Rattle.ostore_turns.proofs.running.execute_next.Goals.{then-stops_run, else-stops_run}
 
@@ -47,3 +51,19 @@ execute-requires-clause-room g c =
     let low = subst (λ (l : List Txn). c.args.seat.now.place.txn < length l) c.items.ensures look.3.0 in
     has_room c.args.client.now c.args.seat.now.place c.in-Some.txn.now c.requires.limits c.requires.fits
     (there_of c.items.result.now c.args.client.now.txns c.args.seat.now.place.txn c.in-Some.txn.now c.items.ensures low look.1)
+
+pub returns-in_ok-push-in-Some-result_by-clause-within :
+    goal.returns-in_ok-push-in-Some-result_by-clause-within
+returns-in_ok-push-in-Some-result_by-clause-within g c =
+    let client = c.args.client.now in
+    let after = g.S.Attempts.bounds (g.S.Attempts.constants c.execute.new.self) in
+    let results : c.push.new.self ≡ and_maybe c.args.seat.now.results (result_by c.in-Some.txn.now.update client.tries c.args.seat.now.place c.in_ok-gave.gave) =
+    c.in_ok-push-in-Some-result_by.ensures.ok ∙ ap (and_maybe c.args.seat.now.results) (sym c.in-Some-result_by.is ∙ c.result_by.ensures) in
+    subst (AllByRecursion (IsResultWithin after client)) (sym results)
+    (gave_within after (g.S.Attempts.clients c.args.store.now) c.args.number.0 client c.in-Some.txn.now.update c.args.seat.now.place c.in_ok-gave.gave c.args.seat.now.results c.requires.there
+    (subst (λ (k : g.S.Attempts.Constants). GivesWithin (g.S.Attempts.bounds k) (g.S.Attempts.clients c.args.store.now) c.args.number.0 c.in_ok-gave.gave) (sym c.execute.ensures.constants) c.in_ok-gave.ensures.bounded)
+    (subst (λ (k : g.S.Attempts.Constants). AllByRecursion (IsResultWithin (g.S.Attempts.bounds k) client) c.args.seat.now.results) (sym c.execute.ensures.constants) c.requires.within))
+
+pub returns-in-None-clause-within : goal.returns-in-None-clause-within
+returns-in-None-clause-within g c =
+    subst (λ (k : g.S.Attempts.Constants). AllByRecursion (IsResultWithin (g.S.Attempts.bounds k) c.args.client.now) c.args.seat.now.results) (sym c.execute.ensures.constants) c.requires.within

@@ -14,6 +14,9 @@ loop-number-preserved g c =
     let new = c.take_turn.new.self in
     record {
       clients = c.take_turn.ensures.clients ∙ c.loop-number.invariant.clients;
+      constants = c.take_turn.ensures.constants ∙ c.loop-number.invariant.constants;
+      ready = c.in_ok-take_turn.ensures.ready;
+      within = c.in_ok-take_turn.ensures.within;
       seated = c.in_ok-take_turn.ensures.seated;
       passes = passes_step c.args.job.now c.loop-number.number (λ k. k) (g.S.Attempts.moment c.args.store.now) now after old run new c.loop-number.invariant.passes c.in_ok-take_turn.ensures.passes;
       turns = elim c.if-branch.branch [

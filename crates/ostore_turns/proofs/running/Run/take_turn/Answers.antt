@@ -1,13 +1,13 @@
-use Rattle.std.proofs.Common.{◌≡◌, ◌<◌, refl, ℕ, Bool, true, length, get_or, List, Some, arith}
+use Rattle.std.proofs.Common.{◌≡◌, ◌<◌, refl, sym, subst, ℕ, Bool, true, length, get_or, List, Some, arith}
 use Rattle.std.specs.List.{slice_get}
 use Rattle.std.specs.Vec.{with_item}
 use Rattle.ostore_job_text.specs.declared.job.JobClient.{JobClient}
 use Rattle.ostore_turns.specs.declared.running.Run.{Run}
 use Rattle.ostore_turns.specs.declared.seat.Seat.{Seat}
 use Rattle.ostore_turns.specs.Places.{Moment}
-use Rattle.ostore_turns.specs.inside.Steps.{AreSeated}
+use Rattle.ostore_turns.specs.inside.Steps.{AreSeated, AreWithin}
 use Rattle.ostore_turns.proofs.RunLaws.{there_of, limits_at, passes_went, passes_stayed, one_stayed}
-use Rattle.ostore_turns.proofs.TakeLaws.{went_one, went_last, stayed_by, seated_more, stayed_seated, spent_more}
+use Rattle.ostore_turns.proofs.TakeLaws.{went_one, went_last, stayed_by, seated_more, stayed_seated, spent_more, within_set}
 use Rattle.ostore_turns.proofs.running.Run.take_turn.Goals as goal
 
 abbrev with_seat : Run → ℕ → Seat → Bool → Run
@@ -148,3 +148,45 @@ returns-in-LastTurn-clause-one g c =
     there (sits job.clients before old c.args.number seat c.requires.seated c.requires.there c.index_mut-seat.ensures.value)
     c.if-self.false refl refl c.requires.clients c.in-LastTurn.is c.in_ok-execute_next.ensures.took in
     spent_more job.clients before after old new c.args.number went c.requires.seated (limits_at job.clients c.args.number went.client c.requires.job.clients went.there)
+
+pub returns-in-NoTurn-clause-within : goal.returns-in-NoTurn-clause-within
+returns-in-NoTurn-clause-within g c =
+    let job = c.args.job.now in
+    let old = c.args.self.now in
+    let seat = c.index_mut-seat.result.now in
+    let new = with_seat old c.args.number c.execute_next.new.seat old.stopped in
+    let kept = subst (λ (k : g.S.Attempts.Constants). AreWithin (g.S.Attempts.bounds k) job.clients old) (sym c.execute_next.ensures.constants) c.requires.within in
+    within_set (g.S.Attempts.bounds (g.S.Attempts.constants c.execute_next.new.store)) job.clients old new c.args.number c.index-items-number.result seat c.execute_next.new.seat
+    (there_of c.items.result.now job.clients c.args.number c.index-items-number.result c.items.ensures c.requires.there c.index-items-number.is)
+    (sits job.clients (g.S.Attempts.moment c.args.store.now) old c.args.number seat c.requires.seated c.requires.there c.index_mut-seat.ensures.value)
+    refl c.in_ok-execute_next.ensures.within kept
+
+pub returns-in-OneTurn-clause-within : goal.returns-in-OneTurn-clause-within
+returns-in-OneTurn-clause-within g c =
+    let job = c.args.job.now in
+    let old = c.args.self.now in
+    let seat = c.index_mut-seat.result.now in
+    let new = with_seat old c.args.number c.execute_next.new.seat old.stopped in
+    let kept = subst (λ (k : g.S.Attempts.Constants). AreWithin (g.S.Attempts.bounds k) job.clients old) (sym c.execute_next.ensures.constants) c.requires.within in
+    within_set (g.S.Attempts.bounds (g.S.Attempts.constants c.execute_next.new.store)) job.clients old new c.args.number c.index-items-number.result seat c.execute_next.new.seat
+    (there_of c.items.result.now job.clients c.args.number c.index-items-number.result c.items.ensures c.requires.there c.index-items-number.is)
+    (sits job.clients (g.S.Attempts.moment c.args.store.now) old c.args.number seat c.requires.seated c.requires.there c.index_mut-seat.ensures.value)
+    refl c.in_ok-execute_next.ensures.within kept
+
+pub returns-in-LastTurn-clause-within : goal.returns-in-LastTurn-clause-within
+returns-in-LastTurn-clause-within g c =
+    let job = c.args.job.now in
+    let old = c.args.self.now in
+    let seat = c.index_mut-seat.result.now in
+    let new = with_seat old c.args.number c.execute_next.new.seat true in
+    let kept = subst (λ (k : g.S.Attempts.Constants). AreWithin (g.S.Attempts.bounds k) job.clients old) (sym c.execute_next.ensures.constants) c.requires.within in
+    within_set (g.S.Attempts.bounds (g.S.Attempts.constants c.execute_next.new.store)) job.clients old new c.args.number c.index-items-number.result seat c.execute_next.new.seat
+    (there_of c.items.result.now job.clients c.args.number c.index-items-number.result c.items.ensures c.requires.there c.index-items-number.is)
+    (sits job.clients (g.S.Attempts.moment c.args.store.now) old c.args.number seat c.requires.seated c.requires.there c.index_mut-seat.ensures.value)
+    refl c.in_ok-execute_next.ensures.within kept
+
+pub execute_next-requires-clause-within : goal.execute_next-requires-clause-within
+execute_next-requires-clause-within g c =
+    c.requires.within c.args.number c.index-items-number.result c.index_mut-seat.result.now
+    (there_of c.items.result.now c.args.job.now.clients c.args.number c.index-items-number.result c.items.ensures c.requires.there c.index-items-number.is)
+    (sits c.args.job.now.clients (g.S.Attempts.moment c.args.store.now) c.args.self.now c.args.number c.index_mut-seat.result.now c.requires.seated c.requires.there c.index_mut-seat.ensures.value)

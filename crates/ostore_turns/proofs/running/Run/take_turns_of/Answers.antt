@@ -17,6 +17,9 @@ returns-then-not-branch-clause-passes g c =
 pub loop-turn-preserved : goal.loop-turn-preserved
 loop-turn-preserved g c = record {
   clients = c.take_turn.ensures.clients ∙ c.loop-turn.invariant.clients;
+  constants = c.take_turn.ensures.constants ∙ c.loop-turn.invariant.constants;
+  ready = c.in_ok-take_turn.ensures.ready;
+  within = c.in_ok-take_turn.ensures.within;
   seated = c.in_ok-take_turn.ensures.seated;
   passes = passes_step c.args.job.now c.loop-turn._turn (λ k. c.args.number) (g.S.Attempts.moment c.args.store.now) (g.S.Attempts.moment c.loop-turn.store) (g.S.Attempts.moment c.take_turn.new.store) c.args.self.now c.loop-turn.self c.take_turn.new.self
       c.loop-turn.invariant.passes c.in_ok-take_turn.ensures.passes;
