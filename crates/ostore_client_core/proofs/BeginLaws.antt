@@ -1,7 +1,8 @@
 -- An attempt that begins: no page is in use.
-use Rattle.std.proofs.Common.{◌≡◌, ◌≤◌, ℕ, false, nat_eq, List, [], length, Option, Some, None, sym, ap, subst, ◌∙◌, arith}
+use Rattle.std.proofs.Common.{◌≡◌, ◌≤◌, ℕ, zero, suc, false, nat_eq, List, [], length, get_or, replicate, Option, Some, None, refl, sym, ap, subst, ◌∙◌, arith}
 use Rattle.std.specs.Map.{lookup}
 use Rattle.std.proofs.lemmas.Bool.{false≢true}
+use Rattle.ostore_base.specs.declared.numbers.PageNo.{PageNo}
 use Rattle.ostore_base.specs.declared.page.PageImage.{PageImage}
 use Rattle.ostore_schema_layout.specs.declared.schema.Schema.{Schema}
 use Rattle.ostore_address_space.specs.Frames.{ArePaired}
@@ -13,7 +14,7 @@ use Rattle.ostore_client_cache.specs.declared.entries.CachedPage.{CachedPage}
 use Rattle.ostore_client_cache.specs.declared.entries.Hold.{Hold}
 use Rattle.ostore_client_cache.specs.declared.entries.Hold.TheVariants.{Retained, InUse, Owned}
 use Rattle.ostore_client_cache.specs.Entries.{is_used, is_in_use}
-use Rattle.ostore_client_core.specs.Clients.{ClientView, entry_of, stored_image, IsAbsent, IsTied, IsTiedBy, IsIdle, IsOwn, AreUsedFirst}
+use Rattle.ostore_client_core.specs.Clients.{ClientView, entry_of, stored_image, AreFree, IsAbsent, IsTied, IsTiedBy, IsIdle, IsOwn, AreUsedFirst}
 use Rattle.ostore_client_core.specs.Attempts.{Attempts}
 use Rattle.ostore_client_core.proofs.EntryLaws.{Pages, none_some}
 use Rattle.ostore_client_core.proofs.GoesLaws.{own_still}
@@ -44,9 +45,9 @@ begins serves later told now client own idle served service pages valid few = re
 }
 
 -- a client without a page, of which the service holds nothing
-pub fresh_own : (serves : Script → Type 0) (told : Told Entry) (client : ClientView) → told.client ≡ client.frames.client.0 → (script : Script) × serves script × (script.schema ≡ client.schema) → client.pages ≡ [] → ((page : ℕ) → IsAbsent told.mine page)
+pub fresh_own : (serves : Script → Type 0) (told : Told Entry) (client : ClientView) → told.client ≡ client.frames.client.0 → (script : Script) × serves script × (script.schema ≡ client.schema) → client.pages ≡ [] → AreFree client.frames.pages → ((page : ℕ) → IsAbsent told.mine page)
     → ArePaired client.frames.pages → IsOwn serves told client
-fresh_own serves told client number script without nothing paired =
+fresh_own serves told client number script without free nothing paired =
     let none : (page : ℕ) → entry_of client page ≡ None = λ page. ap (λ (l : Pages). lookup (nat_eq page) l) without in
     let long : length client.pages ≡ 0 = ap (λ (l : Pages). length l) without in
     record {
@@ -56,6 +57,17 @@ fresh_own serves told client number script without nothing paired =
       resident = λ page entry is. absurd (none_some (sym (none page) ∙ is));
       known = λ page entry is. absurd (none_some (sym (none page) ∙ is));
       frames = paired;
+      framed = λ frame page is. absurd (none_some (sym (free frame) ∙ is));
       short = omega arith;
       first = subst AreUsedFirst (sym without) tt;
     }
+
+-- frames that hold no page
+pub free_frames_of : (count : ℕ) → AreFree (replicate count None)
+free_frames_of count zero = refl
+free_frames_of count (suc i) = none_at count i
+  where
+    none_at : (n k : ℕ) → get_or {A = Option PageNo} (replicate n None) k None ≡ None
+    none_at zero k = refl
+    none_at (suc n) zero = refl
+    none_at (suc n) (suc k) = none_at n k

@@ -1,7 +1,7 @@
 -- Pages that come into use.
 use Rattle.std.proofs.Common.{◌≡◌, ◌≢◌, ◌⊎◌, ℕ, zero, suc, ◌-◌, ◌<◌, ◌≤◌, Bool, true, false, cond, nat_eq, List, [], ◌∷◌, length, Option, Some, None, refl, sym, ap, subst, ◌∙◌, arith, inl, inr}
 use Rattle.std.specs.Prelude.{IsSome, slice_get}
-use Rattle.std.specs.List.{IsDistinct}
+use Rattle.std.specs.List.{AllByRecursion, IsDistinct}
 use Rattle.std.specs.Map.{lookup, remove_entry, set_value, keys_of}
 use Rattle.std.proofs.lemmas.Bool.{cases_eq, cases_lt, eq-eqb, ne_eqb, lt-leb, false≢true}
 use Rattle.std.specs.Option.{option_map}
@@ -9,8 +9,10 @@ use Rattle.lru.specs.LruCache.{last_entry}
 use Rattle.ostore_base.specs.declared.numbers.PageNo.{PageNo}
 use Rattle.ostore_base.specs.declared.page.PageImage.{PageImage}
 use Rattle.ostore_schema_layout.specs.declared.schema.Schema.{Schema}
-use Rattle.ostore_address_space.specs.Frames.{ArePaired, KeepsFrames}
+use Rattle.ostore_address_space.specs.Frames.{Frames, ArePaired, KeepsFrames}
 use Rattle.ostore_relocation.specs.Forms.{IsResidentPage, stored_form}
+use Rattle.ostore_relocation.specs.Reserving.{pages_wanted}
+use Rattle.ostore_relocation.proofs.ReserveLaws.{long_all}
 use Rattle.ostore_page_service.specs.History.{Agrees, IsReached}
 use Rattle.ostore_page_service.specs.declared.answers.Claim.{Claim}
 use Rattle.ostore_page_service.specs.declared.answers.Claim.TheVariants as claim
@@ -20,20 +22,21 @@ use Rattle.ostore_graph_model.specs.declared.history.Entry.{Entry}
 use Rattle.ostore_client_cache.specs.declared.entries.CachedPage.{CachedPage}
 use Rattle.ostore_client_cache.specs.declared.entries.Hold.{Hold}
 use Rattle.ostore_client_cache.specs.declared.entries.Hold.TheVariants as hold
-use Rattle.ostore_client_cache.specs.Entries.{is_used, is_in_use, imaged_as, held_as, first_as, hold_of}
+use Rattle.ostore_client_cache.specs.Entries.{is_used, is_in_use, is_owned, is_owner, imaged_as, held_as, first_as, hold_of}
 use Rattle.ostore_client_cache.specs.Caches.{fresh, oldest, surplus, without_one}
 use Rattle.ostore_client_cache.proofs.CountLaws.{long_first, long_removed, long_set}
 use Rattle.ostore_client_core.specs.Cells.{HasCellsOf}
 use Rattle.ostore_client_core.specs.Kinds.{graph_meaning}
-use Rattle.ostore_client_core.specs.Clients.{ClientView, with_pages, entry_of, stored_image, is_page_used, IsResident, IsAbsent, IsRetained, IsTied, IsTiedBy, IsOwn, AreUsedFirst}
+use Rattle.ostore_client_core.specs.Clients.{ClientView, with_pages, entry_of, stored_image, is_page_used, AreKnown, IsResident, IsAbsent, IsRetained, IsTied, IsTiedBy, IsOwn, AreUsedFirst}
 use Rattle.ostore_client_core.specs.Attempts.{seen, IsBase, Attempts, Narrows}
-use Rattle.ostore_client_core.specs.Calls.{Drops, IsFitPage, Settles, Takes, trimmed}
+use Rattle.ostore_client_core.specs.Calls.{Drops, IsFitPage, OwnsNoMore, Settles, Takes, trimmed}
 use Rattle.ostore_client_core.proofs.EntryLaws.{Pages, none_some, some_of, held_there, hold_there, first_is, first_here, first_other, front_here, front_other, gone_here, gone_other, set_here, first_used, first_less}
 use Rattle.ostore_client_core.proofs.OldestLaws.{IsOldest}
 use Rattle.ostore_client_core.proofs.TiedLaws.{SameAt}
 use Rattle.ostore_client_core.proofs.GoesLaws.{Extends, KeepsPage, Goes, GoesOn, goes_own, same_stored, same_resident}
 use Rattle.ostore_client_core.proofs.SeenLaws.{narrows, seen_used, seen_idle, seen_kept}
-use Rattle.ostore_client_core.proofs.FitLaws.{valid_fits}
+use Rattle.ostore_client_core.proofs.FitLaws.{valid_fits, wanted_within}
+use Rattle.ostore_client_core.proofs.RoomLaws.{known_all}
 
 some_is : {X : Type 0} {x y : X} → Some x ≡ Some y → x ≡ y
 some_is {X} {x} {y} e = cc
@@ -55,6 +58,12 @@ base_of s schema now same reached = (
 
 pub fit_of : (schema : Schema) (now : Told Entry) (page : ℕ) (image : PageImage) → (base : List PageImage) × IsBase schema now base → now.mine.held page ≡ Some image → IsFitPage schema page image
 fit_of schema now page image base held = valid_fits schema base.0 base.1.valid page image (base.1.agrees page image held)
+
+-- each page that it needs in a frame is one of the database
+pub wanted_of : (schema : Schema) (now : Told Entry) (page : ℕ) (image : PageImage) → (base : List PageImage) × IsBase schema now base → now.mine.held page ≡ Some image → AllByRecursion (λ (p : PageNo). p.0 < length now.opened) (pages_wanted schema (record { 0 = page }) image.bytes)
+wanted_of schema now page image base held =
+    subst (λ (n : ℕ). AllByRecursion (λ (p : PageNo). p.0 < n) (pages_wanted schema (record { 0 = page }) image.bytes)) base.1.long
+    (wanted_within schema base.0 base.1.valid page image (base.1.agrees page image held))
 
 pub fetched_use : (c : Claim) (told now : Told Entry) (page : ℕ) (before after : PageImage) → c ≡ claim.Fetched → Claims c told now page before after → InUse told now page after
 fetched_use c told now page before after is claimed = subst (λ (x : Claim). Claims x told now page before after) is claimed
@@ -82,12 +91,30 @@ pub record Comes (serves later : Script → Type 0) (told now : Told Entry) (old
   pub held : now.mine.held page ≡ Some (stored_image new page entry.image)
   pub owned : now.mine.owned page ≡ false
   pub resident : IsResident new page entry.image
+  pub framed : AreKnown (length told.opened) new.frames.pages
   pub others : (other : ℕ) → other ≢ page → Goes (length told.opened) old new told.mine now.mine other
   pub held_others : (other : ℕ) → other ≢ page → now.mine.held other ≡ told.mine.held other
   pub idle_others : (other : ℕ) → other ≢ page → KeepsPage old new told.mine now.mine other ⊎ ((is_in_use (entry_of old other) ≡ false) × (is_in_use (entry_of new other) ≡ false))
   pub short : length new.pages ≤ new.most
   pub first : AreUsedFirst new.pages
   pub some : (base : List PageImage) × IsBase new.schema now base
+
+pub owns_is : {old new : ClientView} → new ≡ old → OwnsNoMore old new
+owns_is is page owned = sym (ap (λ (v : ClientView). is_owned (entry_of v page)) is) ∙ owned
+
+idle_unowned : (found : Option CachedPage) → is_in_use found ≡ false → is_owned found ≡ true → ⊥
+idle_unowned None idle owned = false≢true owned
+idle_unowned (Some entry) idle owned = go entry.hold idle owned
+  where
+    go : (held : Hold) → is_used held ≡ false → is_owner held ≡ true → ⊥
+    go hold.Retained idle owned = false≢true owned
+    go hold.InUse idle owned = false≢true owned
+    go hold.Owned idle owned = false≢true (sym idle)
+
+-- a page that is as it was, or in use neither before nor after, was owned before where it is now
+pub owned_before : (old new : ClientView) (before after : Side Entry) (other : ℕ) → KeepsPage old new before after other ⊎ ((is_in_use (entry_of old other) ≡ false) × (is_in_use (entry_of new other) ≡ false)) → is_owned (entry_of new other) ≡ true → is_owned (entry_of old other) ≡ true
+owned_before old new before after other (inl keeps) owned = sym (ap is_owned keeps.entry) ∙ owned
+owned_before old new before after other (inr idles) owned = absurd (idle_unowned (entry_of new other) idles.1 owned)
 
 module _ (serves later : Script → Type 0) (told now : Told Entry) (old new : ClientView) (page : ℕ) (entry : CachedPage) (h : Comes serves later told now old new page entry) where
   comes_on : GoesOn serves later told now old new
@@ -104,12 +131,20 @@ module _ (serves later : Script → Type 0) (told now : Told Entry) (old new : C
       }))
       | inr apart ↦ h.others other apart
     ];
+    framed = h.framed;
     short = h.short;
     first = h.first;
   }
 
   used_now : is_used entry.hold ≡ true
   used_now = ap is_used h.in_use
+
+  -- nothing more is owned
+  pub comes_owns : OwnsNoMore old new
+  comes_owns other owned = elim (cases_eq other page) as (λ _. is_owned (entry_of old other) ≡ true) [
+    | inl same ↦ absurd (false≢true (sym (ap (λ (p : ℕ). is_owned (entry_of new p)) same ∙ ap is_owned h.here ∙ ap is_owner h.in_use) ∙ owned))
+    | inr apart ↦ owned_before old new told.mine now.mine other (h.idle_others other apart) owned
+  ]
 
   pub comes_use : is_page_used new page
   comes_use = ap is_in_use h.here ∙ used_now
@@ -164,7 +199,7 @@ kept_comes serves later told now old new page copy runs served service below ret
     let tie : IsRetained (stored_image old page was.entry.image) told.mine page = subst (λ (k : Hold). IsTiedBy k (stored_image old page was.entry.image) told.mine page) held (subst (IsTied (stored_image old page) told.mine page) was.is (runs.own.tied page)) in
     let entry : CachedPage = held_as hold.InUse was.entry in
     let pages : new.pages ≡ first_as hold.InUse old.pages page = ap (λ (v : ClientView). v.pages) is in
-    let more : Extends old new = record { schema = ap (λ (v : ClientView). v.schema) is; client = ap (λ (v : ClientView). v.frames.client) is; frames = subst (λ (v : ClientView). KeepsFrames old.frames.pages v.frames.pages) (sym is) (record { pages = λ f p e. e }); paired = subst (λ (v : ClientView). ArePaired v.frames.pages) (sym is) runs.own.frames } in
+    let more : Extends old new = record { schema = ap (λ (v : ClientView). v.schema) is; most = ap (λ (v : ClientView). v.most) is; count = ap (λ (v : ClientView). length v.frames.pages) is; client = ap (λ (v : ClientView). v.frames.client) is; frames = subst (λ (v : ClientView). KeepsFrames old.frames.pages v.frames.pages) (sym is) (record { pages = λ f p e. e }); paired = subst (λ (v : ClientView). ArePaired v.frames.pages) (sym is) runs.own.frames } in
     let form : stored_image new page was.entry.image ≡ stored_image old page was.entry.image = same_stored old new page was.entry.image more (runs.own.resident page was.entry was.is).form in (
       entry,
       record {
@@ -180,6 +215,7 @@ kept_comes serves later told now old new page copy runs served service below ret
         held = claimed.held ∙ ap Some (tie.kept copy kept ∙ sym form);
         owned = claimed.owned;
         resident = same_resident old new page was.entry.image runs.own.frames more (runs.own.resident page was.entry was.is);
+        framed = subst (λ (v : ClientView). AreKnown (length told.opened) v.frames.pages) (sym is) runs.own.framed;
         others = λ other apart. inl (keeps other apart pages);
         held_others = λ other apart. claimed.others.held other apart;
         idle_others = λ other apart. inl (keeps other apart pages);
@@ -239,6 +275,7 @@ pub record HasTaken (mid new : ClientView) (page : ℕ) (image : PageImage) : Ty
   pub most : new.most ≡ mid.most
   pub first : AreUsedFirst (remove_entry (nat_eq page) mid.pages) → AreUsedFirst new.pages
   pub more : Extends mid new
+  pub framed : (count : ℕ) → AreKnown count mid.frames.pages → AllByRecursion (λ (p : PageNo). p.0 < count) (pages_wanted mid.schema (record { 0 = page }) image.bytes) → AreKnown count new.frames.pages
 
 removed_set : (page : ℕ) (entry : CachedPage) (pages : Pages) → remove_entry (nat_eq page) (set_value (nat_eq page) pages entry) ≡ remove_entry (nat_eq page) pages
 removed_set page entry [] = refl
@@ -270,8 +307,12 @@ has_taken mid new page image fit t =
       long = ap (λ (l : Pages). length l) pages ∙ first_long hold.InUse page v.pages ∙ ap (λ (l : Pages). length l) s.pages ∙ long_set page mid.pages (imaged_as s.resident s.entry);
       most = ap (λ (x : ClientView). x.most) t.client ∙ s.most;
       first = λ first. subst AreUsedFirst (sym front) (first_used (page, entry) (remove_entry (nat_eq page) mid.pages) refl first);
+      framed = λ count known low.
+          subst (λ (f : Frames). AreKnown count f.pages) (sym (ap (λ (x : ClientView). x.frames) t.client ∙ s.frames_are)) (known_all s.choice mid.frames (pages_wanted mid.schema (record { 0 = page }) image.bytes) count known low);
       more = record {
         schema = ap (λ (x : ClientView). x.schema) t.client ∙ s.schema;
+        most = ap (λ (x : ClientView). x.most) t.client ∙ s.most;
+        count = ap (λ (x : ClientView). length x.frames.pages) t.client ∙ ap (λ (f : Frames). length f.pages) s.frames_are ∙ long_all s.choice mid.frames (pages_wanted mid.schema (record { 0 = page }) image.bytes);
         client = ap (λ (x : ClientView). x.frames.client) t.client ∙ s.client;
         frames = subst (λ (x : ClientView). KeepsFrames mid.frames.pages x.frames.pages) (sym t.client) s.more;
         paired = subst (λ (x : ClientView). ArePaired x.frames.pages) (sym t.client) s.paired;
@@ -294,6 +335,8 @@ pub taken_comes : (serves later : Script → Type 0) (told now : Told Entry) (ol
 taken_comes serves later told now old mid new page image runs served service below idle unheld t held owned schema frames most short first reached others =
     let more : Extends old new = record {
       schema = t.more.schema ∙ schema;
+      most = t.more.most ∙ most;
+      count = t.more.count ∙ ap (λ (f : Frames). length f.pages) frames;
       client = t.more.client ∙ ap (λ f. f.client) frames;
       frames = subst (λ f. KeepsFrames f.pages new.frames.pages) frames t.more.frames;
       paired = t.more.paired;
@@ -314,6 +357,10 @@ taken_comes serves later told now old mid new page image runs served service bel
         held = held ∙ ap Some (sym t.stored);
         owned = owned;
         resident = t.resident;
+        framed = t.framed (length told.opened) (subst (λ (f : Frames). AreKnown (length told.opened) f.pages) (sym frames) runs.own.framed)
+            (subst (λ (s : Schema). AllByRecursion (λ (p : PageNo). p.0 < length told.opened) (pages_wanted s (record { 0 = page }) image.bytes)) (sym schema)
+            (subst (λ (l : List PageImage). AllByRecursion (λ (p : PageNo). p.0 < length l) (pages_wanted old.schema (record { 0 = page }) image.bytes)) service.opened
+            (wanted_of old.schema now page image (base_of runs.own.script.0 old.schema now runs.own.script.2 (reached runs.own.script.0 runs.own.script.1)) held)));
         others = λ other apart. (others other apart).goes;
         held_others = λ other apart. (others other apart).held;
         idle_others = λ other apart. (others other apart).idle;
@@ -325,10 +372,10 @@ taken_comes serves later told now old mid new page image runs served service bel
 
 -- ---- a page that was lost for want of a frame
 
-pub lost_own : (serves later : Script → Type 0) (told now : Told Entry) (old mid new : ClientView) (page : ℕ) → IsOwn serves told old → ((s : Script) → serves s → later s) → SameService told now → Extends old new
+pub lost_own : (serves later : Script → Type 0) (told now : Told Entry) (old mid new : ClientView) (page : ℕ) → IsOwn serves told old → ((s : Script) → serves s → later s) → SameService told now → Extends old new → AreKnown (length told.opened) new.frames.pages
     → entry_of new page ≡ None → IsAbsent now.mine page → ((other : ℕ) → other ≢ page → OtherGoes (length told.opened) old new told.mine now.mine other)
     → length new.pages ≤ new.most → AreUsedFirst new.pages → IsOwn later now new
-lost_own serves later told now old mid new page own served service more gone absent others short first = goes_own serves later told now old new (record {
+lost_own serves later told now old mid new page own served service more framed gone absent others short first = goes_own serves later told now old new (record {
   own = own;
   served = served;
   service = service;
@@ -341,9 +388,17 @@ lost_own serves later told now old mid new page own served service more gone abs
     }))
     | inr apart ↦ (others other apart).goes
   ];
+  framed = framed;
   short = short;
   first = first;
 })
+
+-- and nothing more is owned
+pub lost_owns : (count : ℕ) (old new : ClientView) (before after : Side Entry) (page : ℕ) → entry_of new page ≡ None → ((other : ℕ) → other ≢ page → OtherGoes count old new before after other) → OwnsNoMore old new
+lost_owns count old new before after page gone others other owned = elim (cases_eq other page) as (λ _. is_owned (entry_of old other) ≡ true) [
+  | inl same ↦ absurd (false≢true (sym (ap (λ (p : ℕ). is_owned (entry_of new p)) same ∙ ap is_owned gone) ∙ owned))
+  | inr apart ↦ owned_before old new before after other (others other apart).idle owned
+]
 
 -- ---- a page that the client hadn't, and the one that makes way for it
 

@@ -164,6 +164,7 @@ module _ (serves middle : Script → Type 0) (told mid : Told Entry) (client : C
     resident = runs.own.resident;
     known = λ page cached there. (let low = runs.own.known page cached there in subst (λ (l : List PageImage). page < length l) (sym commits.service.opened) low);
     frames = runs.own.frames;
+    framed = λ frame at is. (let low = runs.own.framed frame at is in subst (λ (l : List PageImage). at.0 < length l) (sym commits.service.opened) low);
     short = runs.own.short;
     first = runs.own.first;
   }

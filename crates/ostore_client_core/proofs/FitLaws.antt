@@ -7,6 +7,7 @@ use Rattle.std.proofs.lemmas.Bool.{cases_eq, eq-eqb, ne_eqb, eqb-true, leb-true,
 use Rattle.std.proofs.lemmas.List.{get_or-drop}
 use Rattle.std.proofs.lemmas.List.Elements.{All-from_recursion, recursion_from_All}
 use Rattle.std.proofs.lemmas.Option.{get_or_from_slice_get, slice_get_within, same_Some}
+use Rattle.ostore_base.specs.declared.numbers.PageNo.{PageNo}
 use Rattle.ostore_base.specs.declared.page.PageImage.{PageImage}
 use Rattle.ostore_page_tags.specs.declared.tag_rows.Row.{Row}
 use Rattle.ostore_page_tags.specs.Numbers.{number_at}
@@ -24,13 +25,14 @@ use Rattle.ostore_page_tags.proofs.parts.CellLaws as tags
 use Rattle.ostore_page_tags.proofs.walks.NthLaws.{rows_counted}
 use Rattle.ostore_schema_layout.specs.declared.schema.Schema.{Schema}
 use Rattle.ostore_schema_layout.specs.Cells.{HasCode, code_size, pointers_of}
-use Rattle.ostore_relocation.specs.Places.{LieBetween, holds_objects, root_place, name_length, root_pointer, row_pointers, cell_pointers}
+use Rattle.ostore_relocation.specs.Places.{LieBetween, holds_objects, root_place, name_length, root_pointer, row_pointers, cell_pointers, page_pointers}
+use Rattle.ostore_relocation.specs.Reserving.{pages_wanted, targets_of}
 use Rattle.ostore_page_tags.specs.PagePointers.{root_pointers}
 use Rattle.ostore_relocation.proofs.PlaceLaws.{lie_code, lie_order}
 use Rattle.ostore_relocation.proofs.PageLaws.{all_at-range, row_of_schema, row_read}
 use Rattle.ostore_page_tags.proofs.changes.DeadLaws.{stop_in}
 use Rattle.ostore_relocation.specs.Pointers.{target}
-use Rattle.ostore_relocation.specs.Fitness.{HasCells, IsCellOf, IsFit, LeadToPages}
+use Rattle.ostore_relocation.specs.Fitness.{HasCells, IsCellOf, IsFit}
 use Rattle.ostore_relocation.proofs.FitLaws.{all_fit}
 use Rattle.ostore_graph_model.specs.Addresses.{placed, begins_at, cell_in, cell_at}
 use Rattle.ostore_graph_model.specs.FixedPages.{RootRow, root_at, is_unnamed, roots_of}
@@ -157,8 +159,12 @@ fit_shape schema list valid page image is =
     page_of ten kind (inl free) bytes = absurd (let free_kind : (header_of image.bytes).kind ≡ 1 = sym (ap (λ (l : List ℕ). (header_of l).kind) bytes) ∙ free.header.kind in let e : 1 ≡ 2 = sym free_kind ∙ kind in omega arith)
     page_of ten kind (inr good) bytes = subst IsPage bytes good
 
-leads_below : (list : List PageImage) (pointer : ℕ) → length list ≤ 16384 → LeadsToPage list pointer → target pointer < 16384
-leads_below list pointer few leads = elim (cases_eq pointer 0) [
+-- the pointers at some places lead to pages of a list of that length
+abbrev pub LeadWithin : ℕ → List ℕ → List ℕ → Type 0
+LeadWithin count bytes places = AllByRecursion (λ at. target (number_at 4 at bytes) < count) places
+
+leads_below : (list : List PageImage) (pointer : ℕ) → 0 < length list → LeadsToPage list pointer → target pointer < length list
+leads_below list pointer more leads = elim (cases_eq pointer 0) [
   | inl none ↦ omega arith
   | inr some ↦ let page = (leads some).1 in omega arith
 ]
@@ -171,33 +177,33 @@ rec_flat : {X : Type 0} (P : ℕ → Type 0) (f : X → List ℕ) (xs : List X) 
 rec_flat P f [] each = tt
 rec_flat P f (x ∷ xs) each = rec_append P (f x) (flat_map f xs) (each 0 x refl) (rec_flat P f xs (λ m y is. each (suc m) y is))
 
-leads_row : (list : List PageImage) (bytes : List ℕ) (offset stop low high : ℕ) (places : List ℕ) → length list ≤ 16384 → LieBetween low places high → high ≤ stop - offset
-    → AllByRecursion (λ (q : ℕ). LeadsToPage list (number_at 4 q (between offset stop bytes))) places → LeadToPages bytes (map (λ at. offset + at) places)
-leads_row list bytes offset stop low high [] few lie within leads = tt
-leads_row list bytes offset stop low high (q ∷ places) few lie within leads =
+leads_row : (list : List PageImage) (bytes : List ℕ) (offset stop low high : ℕ) (places : List ℕ) → 0 < length list → LieBetween low places high → high ≤ stop - offset
+    → AllByRecursion (λ (q : ℕ). LeadsToPage list (number_at 4 q (between offset stop bytes))) places → LeadWithin (length list) bytes (map (λ at. offset + at) places)
+leads_row list bytes offset stop low high [] more lie within leads = tt
+leads_row list bytes offset stop low high (q ∷ places) more lie within leads =
     let order = lie_order (q + 4) high places lie.1 in (
-      subst (λ (n : ℕ). target n < 16384) (sym (number_in offset stop q bytes (omega arith))) (leads_below list (number_at 4 q (between offset stop bytes)) few leads.0),
-      leads_row list bytes offset stop (q + 4) high places few lie.1 within leads.1,
+      subst (λ (n : ℕ). target n < length list) (sym (number_in offset stop q bytes (omega arith))) (leads_below list (number_at 4 q (between offset stop bytes)) more leads.0),
+      leads_row list bytes offset stop (q + 4) high places more lie.1 within leads.1,
     )
 
-row_leads : (schema : Schema) (list : List PageImage) (bytes : List ℕ) (i : ℕ) (live : Bool) → length list ≤ 16384 → HasCells schema bytes → i < rows_in bytes → (row_in bytes i).live ≡ live
+row_leads : (schema : Schema) (list : List PageImage) (bytes : List ℕ) (i : ℕ) (live : Bool) → 0 < length list → HasCells schema bytes → i < rows_in bytes → (row_in bytes i).live ≡ live
     → (live ≡ true → All (λ (q : ℕ). LeadsToPage list (pointer_at q (nth bytes i).bytes)) (pointers_of schema (row_in bytes i).code))
-    → LeadToPages bytes (cond live (map (λ at. offset_in bytes i + at) (pointers_of schema (row_in bytes i).code)) [])
-row_leads schema list bytes i false few has below is leads = tt
-row_leads schema list bytes i true few has below is leads =
+    → LeadWithin (length list) bytes (cond live (map (λ at. offset_in bytes i + at) (pointers_of schema (row_in bytes i).code)) [])
+row_leads schema list bytes i false more has below is leads = tt
+row_leads schema list bytes i true more has below is leads =
     let row = row_of_schema schema bytes has i below in
     let size = row.size is in
-    leads_row list bytes (offset_in bytes i) (stop_in bytes i) 0 (code_size schema (row_in bytes i).code) (pointers_of schema (row_in bytes i).code) few (lie_code schema (row_in bytes i).code) (omega arith)
+    leads_row list bytes (offset_in bytes i) (stop_in bytes i) 0 (code_size schema (row_in bytes i).code) (pointers_of schema (row_in bytes i).code) more (lie_code schema (row_in bytes i).code) (omega arith)
     (recursion_from_All (λ (q : ℕ). LeadsToPage list (pointer_at q (nth bytes i).bytes)) (pointers_of schema (row_in bytes i).code) (leads refl))
 
-cells_lead : (schema : Schema) (list : List PageImage) (page : ℕ) (image : PageImage) → length list ≤ 16384 → HasGoodPages schema list → HasGoodCells schema list → slice_get list page ≡ Some image → 10 ≤ page → HasCells schema image.bytes
-    → LeadToPages image.bytes (cell_pointers schema image.bytes)
-cells_lead schema list page image few pages good is ten has =
-    rec_flat (λ (at : ℕ). target (number_at 4 at image.bytes) < 16384) (row_pointers schema) (rows_of image.bytes) (λ m row row_is.
+cells_lead : (schema : Schema) (list : List PageImage) (page : ℕ) (image : PageImage) → 0 < length list → HasGoodPages schema list → HasGoodCells schema list → slice_get list page ≡ Some image → 10 ≤ page → HasCells schema image.bytes
+    → LeadWithin (length list) image.bytes (cell_pointers schema image.bytes)
+cells_lead schema list page image more pages good is ten has =
+    rec_flat (λ (at : ℕ). target (number_at 4 at image.bytes) < length list) (row_pointers schema) (rows_of image.bytes) (λ m row row_is.
     let below : m < rows_in image.bytes = omega (arith, rows_counted image.bytes, slice_get_within (rows_of image.bytes) m row row_is) in
     let same : row_in image.bytes m ≡ row = row_read image.bytes m row below row_is in
-    subst (λ (r : Row). LeadToPages image.bytes (row_pointers schema r)) same
-    (row_leads schema list image.bytes m (row_in image.bytes m).live few has below refl
+    subst (λ (r : Row). LeadWithin (length list) image.bytes (row_pointers schema r)) same
+    (row_leads schema list image.bytes m (row_in image.bytes m).live more has below refl
     (λ live. (pointers_law schema list pages good).0 (page * 4096 + offset_in image.bytes m) (placed (header_of image.bytes).segment (nth image.bytes m)) (cell_there list page image is ten has.page m below) live)))
 
 -- ---- the page of roots
@@ -226,46 +232,67 @@ rec_filter : {X : Type 0} (p : X → Bool) (Q : X → Type 0) (xs : List X) → 
 rec_filter p Q [] all = tt
 rec_filter p Q (x ∷ xs) all = let one = filter_one p Q x xs (p x) refl all in (one.0, rec_filter p Q xs one.1)
 
-roots_lead : (schema : Schema) (list : List PageImage) (image : PageImage) → length list ≤ 16384 → HasGoodPages schema list → HasGoodCells schema list → bytes_at list 9 ≡ image.bytes → length image.bytes ≡ 4096 → LeadToPages image.bytes (root_pointers image.bytes)
+roots_lead : (schema : Schema) (list : List PageImage) (image : PageImage) → 0 < length list → HasGoodPages schema list → HasGoodCells schema list → bytes_at list 9 ≡ image.bytes → length image.bytes ≡ 4096 → LeadWithin (length list) image.bytes (root_pointers image.bytes)
 unfolding root_pointers roots_of
-roots_lead schema list image few pages good bytes whole =
-    rec_flat (λ (at : ℕ). target (number_at 4 at image.bytes) < 16384) (root_pointer image.bytes) (range_with_len 0 101) (λ m i is.
+roots_lead schema list image more pages good bytes whole =
+    rec_flat (λ (at : ℕ). target (number_at 4 at image.bytes) < length list) (root_pointer image.bytes) (range_with_len 0 101) (λ m i is.
     let at : i ≡ m = number_at-range m i is in
     let below : m < 101 = omega (arith, slice_get_within (range_with_len 0 101) m i is, length-range 0 101) in
     let all = recursion_from_All (λ (row : RootRow). LeadsToPage list row.pointer) _ (pointers_law schema list pages good).1 in
     let rows = rec_filter (λ (row : RootRow). not (is_unnamed row.name)) (λ (row : RootRow). LeadsToPage list row.pointer) (map (λ (k : ℕ). root_at (32 + 40 * k) (bytes_at list 9)) (range_with_len 0 101)) all in
     let row = all_at-range (λ (row : RootRow). not (is_unnamed row.name) ≡ true → LeadsToPage list row.pointer) (λ (k : ℕ). root_at (32 + 40 * k) (bytes_at list 9)) 0 101 rows m (omega arith) (omega arith) in
-    subst (λ (k : ℕ). LeadToPages image.bytes (root_pointer image.bytes k)) (sym at)
+    subst (λ (k : ℕ). LeadWithin (length list) image.bytes (root_pointer image.bytes k)) (sym at)
     (by_name m below (subst (λ (l : List ℕ). not (is_unnamed (root_at (32 + 40 * m) l).name) ≡ true → LeadsToPage list (root_at (32 + 40 * m) l).pointer) bytes row) (eqb (name_length image.bytes m) 0) refl))
   where
     by_name : (m : ℕ) → m < 101 → (not (is_unnamed (root_at (32 + 40 * m) image.bytes).name) ≡ true → LeadsToPage list (root_at (32 + 40 * m) image.bytes).pointer) → (free : Bool) → eqb (name_length image.bytes m) 0 ≡ free
-        → LeadToPages image.bytes (cond free [] ((root_place m + 32) ∷ []))
+        → LeadWithin (length list) image.bytes (cond free [] ((root_place m + 32) ∷ []))
     by_name m below row true is = tt
     by_name m below row false is =
         let some : name_length image.bytes m ≢ 0 = λ none. false≢true (sym is ∙ eq-eqb _ _ none) in
         let at : 32 + 0 + 40 * m ≡ 32 + 40 * m + 0 = omega arith in
         let length_is : name_length image.bytes m ≡ number_at 1 (32 + 40 * m + 0) image.bytes = ap (λ (n : ℕ). number_at 1 n image.bytes) at in
         let has_name = named (number_at 1 (32 + 40 * m + 0) image.bytes) (32 + 40 * m + 1) image.bytes (λ none. some (length_is ∙ none)) (omega arith) in
-        (leads_below list (number_at 4 (32 + 40 * m + 32) image.bytes) few (row (ap not has_name)), tt)
+        (leads_below list (number_at 4 (32 + 40 * m + 32) image.bytes) more (row (ap not has_name)), tt)
 
 -- ---- any page
+
+pub leads_within : (schema : Schema) (list : List PageImage) → IsValid schema list → (page : ℕ) (image : PageImage) → slice_get list page ≡ Some image → LeadWithin (length list) image.bytes (page_pointers schema page image.bytes)
+leads_within schema list valid page image is =
+    let shape = fit_shape schema list valid page image is in
+    let there : page < length list = slice_get_within list page image is in
+    by_page (eqb page 9) (holds_objects page image.bytes) refl refl shape.1 (omega arith) shape.0
+  where
+    by_page : (nine objects : Bool) → eqb page 9 ≡ nine → holds_objects page image.bytes ≡ objects → IsFit schema page image.bytes → 0 < length list → length image.bytes ≡ 4096
+        → LeadWithin (length list) image.bytes (cond nine (root_pointers image.bytes) (cond objects (cell_pointers schema image.bytes) []))
+    by_page true objects is_nine is_objects fit more whole =
+        let here : slice_get list 9 ≡ Some image = sym (ap (slice_get list) (eqb-true page 9 is_nine)) ∙ is in
+        roots_lead schema list image more valid.pages_kept valid.cells_kept (ap (λ (i : PageImage). i.bytes) (get_or_from_slice_get list 9 image _ here)) whole
+    by_page false true is_nine is_objects fit more whole =
+        cells_lead schema list page image more valid.pages_kept valid.cells_kept is (leb-true 10 page (and_parts (leb 10 page) (eqb (header_of image.bytes).kind 2) is_objects).0) (fit is_objects)
+    by_page false false is_nine is_objects fit more whole = tt
+
+lead_more : (count most : ℕ) (bytes places : List ℕ) → count ≤ most → LeadWithin count bytes places → LeadWithin most bytes places
+lead_more count most bytes [] few lead = tt
+lead_more count most bytes (at ∷ places) few lead = (let low = lead.0 in omega arith, lead_more count most bytes places few lead.1)
 
 pub valid_fits : (schema : Schema) (list : List PageImage) → IsValid schema list → (page : ℕ) (image : PageImage) → slice_get list page ≡ Some image → IsFitPage schema page image
 valid_fits schema list valid page image is =
     let shape = fit_shape schema list valid page image is in
-    let few = valid.pages_kept.allocated.most in
     record {
       whole = shape.0;
       fit = shape.1;
-      targets = by_page (eqb page 9) (holds_objects page image.bytes) refl refl shape.1 few shape.0;
+      targets = lead_more (length list) 16384 image.bytes (page_pointers schema page image.bytes) valid.pages_kept.allocated.most (leads_within schema list valid page image is);
       cells = shape.2;
     }
+
+-- each page that the image needs in a frame is one of the list
+pub wanted_within : (schema : Schema) (list : List PageImage) → IsValid schema list → (page : ℕ) (image : PageImage) → slice_get list page ≡ Some image → AllByRecursion (λ (p : PageNo). p.0 < length list) (pages_wanted schema (record { 0 = page }) image.bytes)
+wanted_within schema list valid page image is = (slice_get_within list page image is, by_places (page_pointers schema page image.bytes) (leads_within schema list valid page image is))
   where
-    by_page : (nine objects : Bool) → eqb page 9 ≡ nine → holds_objects page image.bytes ≡ objects → IsFit schema page image.bytes → length list ≤ 16384 → length image.bytes ≡ 4096
-        → LeadToPages image.bytes (cond nine (root_pointers image.bytes) (cond objects (cell_pointers schema image.bytes) []))
-    by_page true objects is_nine is_objects fit few whole =
-        let here : slice_get list 9 ≡ Some image = sym (ap (slice_get list) (eqb-true page 9 is_nine)) ∙ is in
-        roots_lead schema list image few valid.pages_kept valid.cells_kept (ap (λ (i : PageImage). i.bytes) (get_or_from_slice_get list 9 image _ here)) whole
-    by_page false true is_nine is_objects fit few whole =
-        cells_lead schema list page image few valid.pages_kept valid.cells_kept is (leb-true 10 page (and_parts (leb 10 page) (eqb (header_of image.bytes).kind 2) is_objects).0) (fit is_objects)
-    by_page false false is_nine is_objects fit few whole = tt
+    one : (pointer : ℕ) (none : Bool) (rest : List PageNo) → eqb pointer 0 ≡ none → target pointer < length list → AllByRecursion (λ (p : PageNo). p.0 < length list) rest → AllByRecursion (λ (p : PageNo). p.0 < length list) (cond none [] (record { 0 = target pointer } ∷ []) ++ rest)
+    one pointer true rest is low all = all
+    one pointer false rest is low all = (low, all)
+
+    by_places : (places : List ℕ) → LeadWithin (length list) image.bytes places → AllByRecursion (λ (p : PageNo). p.0 < length list) (targets_of image.bytes places)
+    by_places [] lead = tt
+    by_places (at ∷ places) lead = one (number_at 4 at image.bytes) (eqb (number_at 4 at image.bytes) 0) (targets_of image.bytes places) refl lead.0 (by_places places lead.1)

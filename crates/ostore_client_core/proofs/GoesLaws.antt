@@ -13,7 +13,8 @@ use Rattle.ostore_graph_model.specs.declared.commands.Script.{Script}
 use Rattle.ostore_graph_model.specs.declared.history.Entry.{Entry}
 use Rattle.ostore_client_cache.specs.declared.entries.CachedPage.{CachedPage}
 use Rattle.ostore_client_core.specs.Cells.{HasCellsOf}
-use Rattle.ostore_client_core.specs.Clients.{ClientView, entry_of, stored_image, IsResident, IsTied, IsOwn, AreUsedFirst}
+use Rattle.ostore_client_core.specs.Clients.{ClientView, entry_of, stored_image, AreKnown, IsResident, IsTied, IsOwn, AreUsedFirst}
+use Rattle.ostore_client_core.specs.Calls.{SameClient}
 use Rattle.ostore_client_core.proofs.TiedLaws.{SameAt, tied_still}
 
 -- ---- more frames
@@ -32,9 +33,17 @@ framed_still old new page was are more some =
 -- what is the same of both, but that more pages may have frames
 pub record Extends (old new : ClientView) : Type 0 where
   pub schema : new.schema ≡ old.schema
+  pub most : new.most ≡ old.most
+  pub count : length new.frames.pages ≡ length old.frames.pages
   pub client : new.frames.client ≡ old.frames.client
   pub frames : KeepsFrames old.frames.pages new.frames.pages
   pub paired : ArePaired new.frames.pages
+
+pub same_client_of : {old new : ClientView} → Extends old new → SameClient old new
+same_client_of more = record { schema = more.schema; most = more.most; client = more.client; frames = more.count }
+
+pub same_client_is : {old new : ClientView} → new ≡ old → SameClient old new
+same_client_is is = record { schema = ap (λ (v : ClientView). v.schema) is; most = ap (λ (v : ClientView). v.most) is; client = ap (λ (v : ClientView). v.frames.client) is; frames = ap (λ (v : ClientView). length v.frames.pages) is }
 
 pub same_stored : (old new : ClientView) (page : ℕ) (image : PageImage) → Extends old new → IsResidentPage old.frames.pages old.schema page image.bytes → stored_image new page image ≡ stored_image old page image
 same_stored old new page image more is =
@@ -70,6 +79,7 @@ pub record GoesOn (serves later : Script → Type 0) (told now : Told Entry) (ol
   pub service : SameService told now
   pub more : Extends old new
   pub each : (page : ℕ) → Goes (length told.opened) old new told.mine now.mine page
+  pub framed : AreKnown (length told.opened) new.frames.pages
   pub short : length new.pages ≤ new.most
   pub first : AreUsedFirst new.pages
 
@@ -81,6 +91,7 @@ goes_own serves later told now old new h = record {
   resident = λ page entry is. resident_at page entry is (h.each page);
   known = λ page entry is. subst (λ (l : List PageImage). page < length l) (sym h.service.opened) (known_at page entry is (h.each page));
   frames = h.more.paired;
+  framed = λ frame page is. subst (λ (l : List PageImage). page.0 < length l) (sym h.service.opened) (h.framed frame page is);
   short = h.short;
   first = h.first;
 }
@@ -102,7 +113,7 @@ goes_own serves later told now old new h = record {
 -- ---- calls that leave the client
 
 pub extends_refl : (client : ClientView) → ArePaired client.frames.pages → Extends client client
-extends_refl client are = record { schema = refl; client = refl; frames = record { pages = λ frame page is. is }; paired = are }
+extends_refl client are = record { schema = refl; most = refl; count = refl; client = refl; frames = record { pages = λ frame page is. is }; paired = are }
 
 pub same_pages_at : {E : Type 0} (a b : Side E) → SamePages a b → (page : ℕ) → SameAt a b page
 same_pages_at a b same page = record { held = same.held page; owned = same.owned page; kept = same.kept page; droppable = same.droppable page }
@@ -115,6 +126,7 @@ own_still serves later told now client own served service pages =
       service = service;
       more = extends_refl client own.frames;
       each = λ page. inl (record { entry = refl; side = same_pages_at told.mine now.mine pages page });
+      framed = own.framed;
       short = own.short;
       first = own.first;
     })

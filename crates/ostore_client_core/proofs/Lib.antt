@@ -9,11 +9,13 @@ pub mod SeenLaws
 pub mod FitLaws
 pub mod OldestLaws
 pub mod SettleLaws
+pub mod RoomLaws
 pub mod BringLaws
 pub mod TakeLaws
 pub mod NewLaws
 pub mod OwnLaws
 pub mod BeginLaws
+pub mod StayLaws
 pub mod CommitLaws
 pub mod FrameLaws
 pub mod TestLaws

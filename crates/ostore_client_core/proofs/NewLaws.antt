@@ -2,12 +2,14 @@
 use Rattle.std.proofs.Common.{◌≡◌, ◌≢◌, ℕ, ◌<◌, ◌≤◌, Bool, true, false, cond, nat_eq, List, ◌∷◌, length, Option, Some, None, refl, sym, ap, subst, ◌∙◌, arith}
 use Rattle.std.specs.Prelude.{Result, Ok, Err, OnOk}
 use Rattle.std.specs.Result.{is_err}
-use Rattle.std.specs.List.{IsDistinct}
+use Rattle.std.specs.List.{AllByRecursion, IsDistinct}
 use Rattle.std.specs.Map.{lookup, remove_entry, keys_of}
 use Rattle.std.proofs.lemmas.Bool.{eq-eqb, false≢true}
 use Rattle.ostore_base.specs.declared.numbers.PageNo.{PageNo}
 use Rattle.ostore_base.specs.declared.page.PageImage.{PageImage}
-use Rattle.ostore_address_space.specs.Frames.{KeepsFrames}
+use Rattle.ostore_schema_layout.specs.declared.schema.Schema.{Schema}
+use Rattle.ostore_address_space.specs.Frames.{Frames, KeepsFrames}
+use Rattle.ostore_relocation.specs.Reserving.{pages_wanted}
 use Rattle.ostore_page_service.specs.History.{IsReached}
 use Rattle.ostore_page_service.specs.Told.{Side, Told, SameService, SameRecords, SameElsewhere, InUse, NoBusy}
 use Rattle.ostore_graph_model.specs.declared.commands.Script.{Script}
@@ -19,16 +21,17 @@ use Rattle.ostore_client_cache.specs.Entries.{is_used, is_in_use, hold_of}
 use Rattle.ostore_client_cache.specs.Caches.{fresh, surplus, used_pages, without_one}
 use Rattle.ostore_client_core.specs.declared.fault.AttemptFault.{AttemptFault}
 use Rattle.ostore_client_core.specs.Kinds.{graph_meaning}
-use Rattle.ostore_client_core.specs.Clients.{ClientView, with_pages, entry_of, stored_image, IsAbsent, IsTied, IsTiedBy, IsOwn, AreUsedFirst}
+use Rattle.ostore_client_core.specs.Clients.{ClientView, with_pages, entry_of, stored_image, AreKnown, IsAbsent, IsTied, IsTiedBy, IsOwn, AreUsedFirst}
 use Rattle.ostore_client_core.specs.Attempts.{Attempts}
-use Rattle.ostore_client_core.specs.Calls.{Drops, IsFitPage, Takes, trimmed}
+use Rattle.ostore_client_core.specs.Calls.{Drops, IsFitPage, OwnsNoMore, SameClient, Takes, trimmed}
 use Rattle.ostore_client_core.proofs.EntryLaws.{Pages, front_here, front_other, gone_other}
 use Rattle.ostore_client_core.proofs.RecordLaws.{calm_refl}
 use Rattle.ostore_client_core.proofs.KeptLaws.{fresh_idle, fresh_held, admitted_count, removed_count}
 use Rattle.ostore_client_core.proofs.OldestLaws.{IsOldest, oldest_idle}
 use Rattle.ostore_client_core.proofs.TiedLaws.{same_at}
-use Rattle.ostore_client_core.proofs.BringLaws.{ReachedFor, Comes, has_taken, taken_comes, other_new, lost_own, trimmed_is, trimmed_short, trimmed_first}
-use Rattle.ostore_client_core.proofs.TakeLaws.{WasLost, lost_pages, lost_more, lost_short}
+use Rattle.ostore_client_core.proofs.GoesLaws.{Extends, same_client_of}
+use Rattle.ostore_client_core.proofs.BringLaws.{ReachedFor, Comes, OtherGoes, has_taken, taken_comes, other_new, lost_own, lost_owns, trimmed_is, trimmed_short, trimmed_first}
+use Rattle.ostore_client_core.proofs.TakeLaws.{WasLost, lost_pages, lost_more, lost_known, lost_short}
 
 -- the page was admitted, and what is too much was dropped
 pub record Trims (old admitted mid : ClientView) (page : ℕ) : Type 0 where
@@ -37,6 +40,14 @@ pub record Trims (old admitted mid : ClientView) (page : ℕ) : Type 0 where
 
 abbrev pub way : ClientView → ℕ → Option PageNo
 way old page = surplus ((page, fresh) ∷ old.pages) old.most
+
+-- what is left of a page that was lost
+pub record IsLost (later : Script → Type 0) (was now : Told Entry) (old mid new : ClientView) (page : ℕ) : Type 0 where
+  pub gone : entry_of new page ≡ None
+  pub own : IsOwn later now new
+  pub owns : OwnsNoMore old new
+  pub client : SameClient old new
+  pub few : length mid.frames.pages < length was.opened
 
 dropped_held : (o : Option PageNo) (told now : Told Entry) → Drops o told now → (q : ℕ) → now.mine.held q ≡ told.mine.held q
 dropped_held None told now drops q = ap (λ (t : Told Entry). t.mine.held q) drops
@@ -141,27 +152,34 @@ module _ (serves : Script → Type 0) (told : Told Entry) (old : ClientView) (pa
         (λ other apart. other_new (length told.opened) told claimed dropped dropped.mine old new page other (way old page) apart runs.own.tied distinct makes_way in_use.others drops (same_at dropped.mine other) (h.others other apart ∙ mid_other other apart)))
 
     -- it was lost
-    pub new_lost : (later : Script → Type 0) (fault : AttemptFault) (claimed dropped now : Told Entry) (new : ClientView) (page_no : PageNo) → page_no.0 ≡ page → ((s : Script) → serves s → later s) → SameService told now
-        → SameElsewhere told.mine claimed.mine page → Drops (way old page) claimed dropped → (w : WasLost fault mid new page_no dropped.mine now.mine) → (entry_of new page ≡ None) × IsOwn later now new
-    new_lost later fault claimed dropped now new page_no same served service claim drops w =
+    pub new_lost : (later : Script → Type 0) (fault : AttemptFault) (claimed dropped now : Told Entry) (new : ClientView) (page_no : PageNo) (image : PageImage) → page_no.0 ≡ page → ((s : Script) → serves s → later s) → SameService told now
+        → SameElsewhere told.mine claimed.mine page → Drops (way old page) claimed dropped → AllByRecursion (λ (p : PageNo). p.0 < length told.opened) (pages_wanted old.schema page_no image.bytes) → (w : WasLost fault mid new page_no image dropped.mine now.mine) → IsLost later told now old mid new page
+    new_lost later fault claimed dropped now new page_no image same served service claim drops low w =
         let l = w.lost in
-        let pages : new.pages ≡ without_one (way old page) old.pages = lost_pages mid new page_no w.frames l ∙ ap (λ (n : ℕ). remove_entry (nat_eq n) mid.pages) same ∙ mid_rest in
-        let more = lost_more mid new page_no w.frames l in
-        let gone : entry_of new page ≡ None = ap (lookup (nat_eq page)) pages ∙ none_here (way old page) makes_way in (
-          gone,
-          lost_own serves later told now old mid new page runs.own served service
-              (record {
-                schema = more.schema ∙ mid_schema;
-                client = more.client ∙ ap (λ f. f.client) mid_frames;
-                frames = subst (λ f. KeepsFrames f.pages new.frames.pages) mid_frames more.frames;
-                paired = more.paired;
-              })
-              gone (subst (IsAbsent now.mine) same (record { held = w.gone.held; owned = w.gone.owned; kept = w.gone.kept }))
-              (λ other apart. other_new (length told.opened) told claimed dropped now.mine old new page other (way old page) apart runs.own.tied distinct makes_way claim drops
-              (record { held = w.gone.others.held other (λ e. apart (e ∙ same)); owned = w.gone.others.owned other (λ e. apart (e ∙ same)); kept = w.gone.others.kept other (λ e. apart (e ∙ same)); droppable = w.gone.others.droppable other (λ e. apart (e ∙ same)) })
-              (ap (lookup (nat_eq other)) pages))
-              (lost_short mid new page_no w.frames l mid_short) (subst AreUsedFirst (sym pages) (trimmed_first (way old page) old.pages runs.own.first)),
-        )
+        let pages : new.pages ≡ without_one (way old page) old.pages = lost_pages mid new page_no image w.frames l ∙ ap (λ (n : ℕ). remove_entry (nat_eq n) mid.pages) same ∙ mid_rest in
+        let more = lost_more mid new page_no image w.frames l in
+        let gone : entry_of new page ≡ None = ap (lookup (nat_eq page)) pages ∙ none_here (way old page) makes_way in
+        let extends : Extends old new = record {
+          schema = more.schema ∙ mid_schema;
+          most = more.most ∙ mid_most;
+          count = more.count ∙ ap (λ (f : Frames). length f.pages) mid_frames;
+          client = more.client ∙ ap (λ f. f.client) mid_frames;
+          frames = subst (λ f. KeepsFrames f.pages new.frames.pages) mid_frames more.frames;
+          paired = more.paired;
+        } in
+        let known = lost_known mid new page_no image w.frames l (length told.opened) (subst (λ (f : Frames). AreKnown (length told.opened) f.pages) (sym mid_frames) runs.own.framed)
+        (subst (λ (s : Schema). AllByRecursion (λ (p : PageNo). p.0 < length told.opened) (pages_wanted s page_no image.bytes)) (sym mid_schema) low) in
+        let others : (other : ℕ) → other ≢ page → OtherGoes (length told.opened) old new told.mine now.mine other = λ other apart. other_new (length told.opened) told claimed dropped now.mine old new page other (way old page) apart runs.own.tied distinct makes_way claim drops
+        (record { held = w.gone.others.held other (λ e. apart (e ∙ same)); owned = w.gone.others.owned other (λ e. apart (e ∙ same)); kept = w.gone.others.kept other (λ e. apart (e ∙ same)); droppable = w.gone.others.droppable other (λ e. apart (e ∙ same)) })
+        (ap (lookup (nat_eq other)) pages) in
+        record {
+          gone = gone;
+          own = lost_own serves later told now old mid new page runs.own served service extends known.0 gone (subst (IsAbsent now.mine) same (record { held = w.gone.held; owned = w.gone.owned; kept = w.gone.kept })) others
+              (lost_short mid new page_no image w.frames l mid_short) (subst AreUsedFirst (sym pages) (trimmed_first (way old page) old.pages runs.own.first));
+          owns = lost_owns (length told.opened) old new told.mine now.mine page gone others;
+          client = same_client_of extends;
+          few = known.1;
+        }
       where
         none_here : (o : Option PageNo) → ((q : PageNo) → o ≡ Some q → IsOldest old.pages page q) → lookup (nat_eq page) (without_one o old.pages) ≡ None
         none_here None oldest = absent

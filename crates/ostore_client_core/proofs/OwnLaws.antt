@@ -19,9 +19,9 @@ use Rattle.ostore_client_cache.specs.Entries.{is_used, held_as}
 use Rattle.ostore_client_cache.proofs.CountLaws.{long_set}
 use Rattle.ostore_client_core.specs.declared.release.Ending.{Ending}
 use Rattle.ostore_client_core.specs.declared.release.Ending.TheVariants.{Aborted}
-use Rattle.ostore_client_core.specs.Clients.{ClientView, with_pages, entry_of, stored_image, IsResident, IsTied, IsTiedBy, IsOwn, AreUsedFirst}
+use Rattle.ostore_client_core.specs.Clients.{ClientView, with_pages, entry_of, stored_image, AreKnown, IsResident, IsTied, IsTiedBy, IsOwn, AreUsedFirst}
 use Rattle.ostore_client_core.specs.Attempts.{seen, Attempts, Narrows}
-use Rattle.ostore_client_core.specs.Calls.{OwnsPage, is_void}
+use Rattle.ostore_client_core.specs.Calls.{OwnsPage, SameClient, is_void}
 use Rattle.ostore_client_core.specs.inside.Releasing.{HaveImages, IsHeld, EndsWith}
 use Rattle.ostore_client_core.proofs.EntryLaws.{Pages, none_some, some_of, set_here, set_other}
 use Rattle.ostore_client_core.proofs.GoesLaws.{Extends, KeepsPage, Goes, GoesOn, goes_own, same_stored, same_resident}
@@ -73,6 +73,8 @@ owns serves later told now old new page o runs served service becomes used =
     let here : entry_of new page ≡ Some entry = ap (lookup (nat_eq page)) pages ∙ set_here page entry old.pages some in
     let more : Extends old new = record {
       schema = ap (λ (v : ClientView). v.schema) o.client;
+      most = ap (λ (v : ClientView). v.most) o.client;
+      count = ap (λ (v : ClientView). length v.frames.pages) o.client;
       client = ap (λ (v : ClientView). v.frames.client) o.client;
       frames = subst (λ (v : ClientView). KeepsFrames old.frames.pages v.frames.pages) (sym o.client) (record { pages = λ f p e. e });
       paired = subst (λ (v : ClientView). ArePaired v.frames.pages) (sym o.client) runs.own.frames;
@@ -95,6 +97,7 @@ owns serves later told now old new page o runs served service becomes used =
         }))
         | inr apart ↦ inl (keeps other apart)
       ];
+      framed = subst (λ (v : ClientView). AreKnown (length told.opened) v.frames.pages) (sym o.client) runs.own.framed;
       short = few pages;
       first = subst AreUsedFirst (sym pages) (first_set page old.pages o.entry entry o.there (sym used) runs.own.first);
     } in
@@ -143,6 +146,7 @@ ended serves later told now old new ending pages own served service is images en
         subst (λ (i : PageImage). IsResident new page i) (sym had.image) (same_resident old new page had.was.image own.frames more (own.resident page had.was had.there));
     known = λ entry there. (let had = images page entry there in own.known page had.was had.there);
   });
+  framed = subst (λ (v : ClientView). AreKnown (length told.opened) v.frames.pages) (sym is) own.framed;
   short = subst (λ (n : ℕ). length new.pages ≤ n) (sym (ap (λ (v : ClientView). v.most) is)) short;
   first = first;
 })
@@ -150,7 +154,13 @@ ended serves later told now old new ending pages own served service is images en
     more : Extends old new
     more = record {
       schema = ap (λ (v : ClientView). v.schema) is;
+      most = ap (λ (v : ClientView). v.most) is;
+      count = ap (λ (v : ClientView). length v.frames.pages) is;
       client = ap (λ (v : ClientView). v.frames.client) is;
       frames = subst (λ (v : ClientView). KeepsFrames old.frames.pages v.frames.pages) (sym is) (record { pages = λ f p e. e });
       paired = subst (λ (v : ClientView). ArePaired v.frames.pages) (sym is) own.frames;
     }
+
+-- what gives pages another entry leaves all else
+pub same_with : {old new : ClientView} {pages : Pages} → new ≡ with_pages pages old → SameClient old new
+same_with is = record { schema = ap (λ (v : ClientView). v.schema) is; most = ap (λ (v : ClientView). v.most) is; client = ap (λ (v : ClientView). v.frames.client) is; frames = ap (λ (v : ClientView). length v.frames.pages) is }

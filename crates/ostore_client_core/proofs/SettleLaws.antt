@@ -48,6 +48,8 @@ settles_of choice schema frames now inside new fetches more page image resident 
       entry = is.entry;
       there = is.is;
       pages = ap (λ (c : Cached). c.pages) set_is;
+      choice = choice;
+      frames_are = reserves.frames;
       comes = comes;
       framed = some_from (frame_of now.pages page.0) (subst (λ (f : Frames). frame_of f.pages page.0 ≢ None) (sym reserves.frames) have.0);
       more = keeps;

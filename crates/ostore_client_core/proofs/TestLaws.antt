@@ -1,5 +1,5 @@
 -- A client of a fresh server, and transactions without commands.
-use Rattle.std.proofs.Common.{◌≡◌, ◌<◌, ◌≤◌, ◌+◌, ℕ, false, List, [], ◌∷◌, length, Option, Some, None, refl, sym, ap, subst, ◌∙◌, arith}
+use Rattle.std.proofs.Common.{◌≡◌, ◌<◌, ◌≤◌, ◌+◌, ℕ, true, false, List, [], ◌∷◌, length, Option, Some, None, refl, sym, ap, subst, ◌∙◌, arith}
 use Rattle.std.specs.Prelude.{All}
 use Rattle.std.proofs.lemmas.Bool.{false≢true}
 use Rattle.std.proofs.lemmas.List.Elements.{All-nil}
@@ -21,7 +21,7 @@ use Rattle.ostore_client_cache.specs.Entries.{is_in_use, is_owned, is_owner, is_
 use Rattle.ostore_client_core.specs.Kinds.{HasReplies, Follows}
 use Rattle.ostore_client_core.specs.Clients.{ClientView, entry_of, IsAbsent, IsIdle}
 use Rattle.ostore_client_core.specs.Commits.{FitsClient}
-use Rattle.ostore_client_core.specs.inside.Nothing.{NamesNothing, nothing}
+use Rattle.ostore_client_core.specs.inside.Nothing.{MakesNothing, NamesNothing, nothing}
 use Rattle.ostore_client_core.proofs.SeenLaws.{nothing_made}
 
 pub nothing_held : {side : Side Entry} → IsEmpty side → (page : ℕ) → IsAbsent side page
@@ -116,3 +116,23 @@ nothing_fits serves told client script entry served schema mine first none names
   where
     valid_of : (base : List PageImage) → IsValid client.schema base → IsValid script.schema base
     valid_of base valid = subst (λ (s : Schema). IsValid s base) (sym schema) valid
+
+-- and so does what owns pages and has written nothing
+pub owned_fits : (serves : Script → Type 0) (told : Told Entry) (client : ClientView) (script : Script) (entry : Entry) → serves script → script.schema ≡ client.schema → entry.client.0 ≡ told.client → told.mine.records ≡ [] → entry.replies ≡ [] → entry.update ≡ true → NamesNothing script entry
+    → MakesNothing serves told client → FitsClient serves told client entry
+owned_fits serves told client script entry served schema mine first none updates names made = record {
+  script = script;
+  served = served;
+  schema = schema;
+  fits = record {
+    mine = mine;
+    named = (nothing entry, names);
+    rises = subst (λ (l : List (Entry × ℕ)). All (λ (earlier : Entry × ℕ). earlier.0.ordinal < entry.ordinal) l) (sym first) (All-nil (λ (earlier : Entry × ℕ). earlier.0.ordinal < entry.ordinal));
+    reads = λ is page. absurd (false≢true (sym is ∙ updates));
+    right = λ base list may. right_nothing script entry base none names (valid_in base may.began.valid);
+    next = λ is base list may. subst (λ (l : List PageImage). Follows script entry base l) (sym (made base list may)) (follows_nothing script entry base none names (valid_in base may.began.valid));
+  };
+}
+  where
+    valid_in : (base : List PageImage) → IsValid client.schema base → IsValid script.schema base
+    valid_in base valid = subst (λ (s : Schema). IsValid s base) (sym schema) valid

@@ -1,20 +1,21 @@
 //! A client over a server in one thread.
 
-ghost use Rattle.std.specs.Prelude.{◌≡◌, ◌<◌, ◌≤◌, ℕ, true, [], length, IfOk};
+ghost use Rattle.std.specs.Prelude.{◌≡◌, ◌<◌, ◌≤◌, ℕ, true, [], length, IfOk, OnOk};
 ghost use Rattle.ostore_schema_layout.specs.Spells.{Spells};
 ghost use Rattle.ostore_graph_model.specs.declared.commands.Script.{Script};
 ghost use Rattle.ostore_page_service.specs.Holding.{IsEmpty};
 ghost use Rattle.ostore_page_service.specs.Servers.{side_of, opened_of, Serves};
-ghost use Rattle.ostore_page_service.specs.Told.{SameService};
+ghost use Rattle.ostore_page_service.specs.Told.{SameRecords, StillServes};
 ghost use Rattle.ostore_client_core.specs.Attempts.{Attempts};
+ghost use Rattle.ostore_client_core.specs.Calls.{SameClient};
 ghost use Rattle.ostore_client_core.specs.Clients.{IsIdle, IsOwn};
-ghost use Rattle.ostore_client_core.specs.inside.Nothing.{NamesNothing};
+ghost use Rattle.ostore_client_core.specs.inside.Nothing.{MakesNothing, NamesNothing};
 
 use super::*;
 use ostore_address_space::{Low, Mapper};
 use ostore_base::{ClientNo, ListOf, MemDisk, OutOfMemory, PageNo};
 use ostore_graph_model::{Entry, fresh_pages_are_empty};
-use ostore_page_service::{PageClaims, PageService, SeqServer};
+use ostore_page_service::{Busy, PageClaims, PageService, SeqServer};
 use ostore_page_tags::fresh_pages;
 use ostore_redo_journal::counting::Journal;
 use ostore_schema_layout::{Schema, parse_schema};
@@ -55,7 +56,8 @@ fn visit<M: Mapper, S: PageService<GraphKind>>(
     requires low { page.0 < 11 }
     ensures own { IsOwn (S.serves service.new) (S.tells service.new) client.new }
     ensures idle { IsIdle client.new }
-    ensures same { SameService (S.tells service.old) (S.tells service.new) }
+    ensures same { SameRecords (S.tells service.old) (S.tells service.new) }
+    ensures served { StillServes (S.serves service.old) (S.serves service.new) }
 {
     if client.begin(service, false).is_err() {
         return Err(AttemptFault::OutOfMemory);
@@ -141,6 +143,36 @@ fn own_and_write<M: Mapper, S: PageService<GraphKind>>(
         Some(read) => Ok(read == bytes),
         None => Ok(false),
     }
+}
+
+/// Brings a page into use in an attempt that owns it, and writes nothing.
+fn own_alone<M: Mapper, S: PageService<GraphKind>>(
+    client: &mut Client<'_, M>,
+    service: &mut S,
+    page: PageNo,
+) -> Result<(), AttemptFault>
+    requires own { IsOwn (S.serves service.old) (S.tells service.old) client.old }
+    requires idle { IsIdle client.old }
+    requires writer { (S.tells service.old).may_write ≡ true }
+    requires known { 11 ≤ length (S.tells service.old).opened }
+    requires low { page.0 < 11 }
+    ensures runs { OnOk result
+        (Attempts (S.serves service.new) (S.tells service.new) client.new) }
+    ensures nothing { OnOk result
+        (MakesNothing (S.serves service.new) (S.tells service.new) client.new) }
+    ensures room { OnOk result (0 < (S.tells service.new).mine.room) }
+    ensures same { SameRecords (S.tells service.old) (S.tells service.new) }
+    ensures served { StillServes (S.serves service.old) (S.serves service.new) }
+    ensures same_client { SameClient client.old client.new }
+{
+    if client.begin(service, true).is_err() {
+        return Err(AttemptFault::OutOfMemory);
+    }
+    let address = match client.enter(service, page) {
+        Ok(address) => address,
+        Err(fault) => return Err(fault),
+    };
+    client.own(service, address)
 }
 
 /// Brings a page into use in one attempt, and then by its address in another one. Says whether it was read there in
@@ -278,6 +310,39 @@ fn a_transaction_without_commands_has_a_number(rt: HostRuntime) -> Result<(), Fa
         replies: ListOf::new(alloc),
     };
     assert_eq!(rt; commit_nothing(&mut client, &mut service, (), entry), Ok(1));
+    Ok(())
+}
+
+#[test]
+fn a_page_that_another_owns_is_busy_until_its_commit(rt: HostRuntime) -> Result<(), Fail> {
+    let alloc = rt.alloc();
+    let schema = parse_schema(alloc, NO_TYPES)?;
+    let mut server = fresh_server(alloc, NO_TYPES, &schema)?;
+    let mut owner = Client::new(alloc, &schema, &Low, ClientNo(0), 4, 12)?;
+    let mut reader = Client::new(alloc, &schema, &Low, ClientNo(1), 4, 12)?;
+    let entry = Entry {
+        client: ClientNo(0),
+        ordinal: 1,
+        update: true,
+        replies: ListOf::new(alloc),
+    };
+    let mut owners = server.as_client(ClientNo(0));
+    owner.fresh_is_own(&owners);
+    own_alone(&mut owner, &mut owners, PageNo(10))?;
+    let mut readers = server.as_client(ClientNo(1));
+    reader.fresh_is_own(&readers);
+    // Client 0 uses, keeps and owns the page.
+    let busy = Busy {
+        page: PageNo(10),
+        seen: 0x1_0001_0001,
+        found: 0x1_0001_0001,
+    };
+    assert_eq!(rt; visit(&mut reader, &mut readers, PageNo(10)), Err(AttemptFault::Busy(busy)));
+    let mut owners_again = server.as_client(ClientNo(0));
+    let number = owner.finish(&mut owners_again, (), entry)?;
+    assert_eq!(rt; number, 1);
+    let mut readers_again = server.as_client(ClientNo(1));
+    assert_eq!(rt; visit(&mut reader, &mut readers_again, PageNo(10)), Ok(1));
     Ok(())
 }
 

@@ -161,6 +161,7 @@ impl<'a, M: Mapper> Client<'a, M> {
             return Ok(());
         }
         if self.cache.is_full() {
+            self.pages_differ();
             return Err(AttemptFault::CacheFull {
                 used: self.cache.used(),
                 capacity: self.cache.most(),

@@ -54,6 +54,7 @@ impl<'a, M: Mapper> Client<'a, M> {
         ensures own { IsOwn (S.serves service.new) (S.tells service.new) self.new }
         ensures done { IfOk result
             (Finishes (S.tells service.old) (S.tells service.new) self.old entry) }
+        ensures same_client { SameClient self.old self.new }
         ensures released { OnOk result
             (Releases Committed self.old self.new (S.tells service.new).mine) }
         ensures idle { OnOk result (IsIdle self.new) }

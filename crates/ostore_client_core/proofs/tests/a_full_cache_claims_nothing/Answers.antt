@@ -9,7 +9,7 @@ use Rattle.ostore_client_core.proofs.tests.a_full_cache_claims_nothing.Goals as 
 pub fresh_is_own-requires-clause-script : goal.fresh_is_own-requires-clause-script
 fresh_is_own-requires-clause-script g c =
     let s = c.as_client-service in
-    fresh_script (λ t is. subst (λ x. Serves x t) (sym s.ensures.same) (c.in_ok-server.ensures.served t is)) (ap (λ (v : ClientView). v.schema) c.in_ok-client.ensures)
+    fresh_script (λ t is. subst (λ x. Serves x t) (sym s.ensures.same) (c.in_ok-server.ensures.served t is)) (ap (λ (v : ClientView). v.schema) c.in_ok-client.ensures.made)
 
 pub fresh_is_own-requires-clause-nothing : goal.fresh_is_own-requires-clause-nothing
 fresh_is_own-requires-clause-nothing g c =

@@ -1,7 +1,8 @@
-use Rattle.std.proofs.Common.{◌≤◌, ◌<◌, length, sym, subst}
+use Rattle.std.proofs.Common.{rules, ◌≡◌, ◌≤◌, ◌<◌, ℕ, length, refl, sym, subst, arith}
 use Rattle.ostore_client_cache.specs.Caches.{used_pages}
 use Rattle.ostore_client_core.specs.Clients.{ClientView}
 use Rattle.ostore_client_core.proofs.KeptLaws.{room_left}
+use Rattle.ostore_client_core.proofs.RoomLaws.{used_below}
 use Rattle.ostore_client_core.proofs.client.Client.bring.Goals as goal
 
 pub bring_retained-requires-clause-room : goal.bring_retained-requires-clause-room
@@ -15,3 +16,13 @@ bring_new-requires-clause-room g c =
     let cache = c.self.inside.cache in
     subst (λ (v : ClientView). length (used_pages v.pages) < v.most) c.self.view_is
     (room_left cache.pages cache.most c.if-is_full.ensures (subst (λ (v : ClientView). length v.pages ≤ v.most) (sym c.self.view_is) c.requires.runs.own.short))
+
+pub returns-then-is_full-clause-refused : goal.returns-then-is_full-clause-refused
+returns-then-is_full-clause-refused g c =
+    let client = c.args.self.now in
+    let told = g.S.PageClaims.tells c.args.service.now in
+    let used : c.used.result ≡ length (used_pages client.pages) = search rules in
+    let most : c.most.result ≡ client.most = search rules in
+    let full : c.used.result ≡ c.most.result = search rules in
+    let few : length (used_pages client.pages) < length told.opened = used_below client.pages c.pages_differ.ensures c.args.page.0 (length told.opened) (search rules) c.requires.known c.requires.runs.own.known in
+    (refl, refl, used, most, full, omega arith)

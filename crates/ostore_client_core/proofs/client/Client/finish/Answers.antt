@@ -4,7 +4,7 @@ use Rattle.ostore_client_core.specs.declared.release.Ending.TheVariants.{Committ
 use Rattle.ostore_client_core.specs.Clients.{stored_image}
 use Rattle.ostore_client_core.specs.Commits.{WritesOwned}
 use Rattle.ostore_client_core.proofs.CommitLaws.{fits}
-use Rattle.ostore_client_core.proofs.OwnLaws.{ended}
+use Rattle.ostore_client_core.proofs.OwnLaws.{ended, same_with}
 use Rattle.ostore_client_core.proofs.FinishLaws.{none_written, own_mid, ends_mid, finishes, serves_still}
 use Rattle.ostore_client_core.proofs.client.Client.finish.Goals as goal
 
@@ -44,3 +44,6 @@ returns-clause-served g c =
     let none : WritesOwned c.args.self.now [] = none_written c.args.self.now (c.requires.fits.fits.reads c.if-entry.false) in
     serves_still (g.S.PageClaims.serves c.args.service.now) (g.S.PageClaims.serves c.commit_read-number.new.self) (g.S.PageClaims.tells c.args.service.now) (g.S.PageClaims.tells c.commit_read-number.new.self) c.args.self.now c.args.entry c.commit_read-number.result [] c.requires.runs c.requires.fits none c.commit_read-number.ensures.added c.commit_read-number.ensures.served
     (g.S.PageClaims.serves c.release_used.new.service) c.release_used.ensures.served
+
+pub returns-clause-same_client : goal.returns-clause-same_client
+returns-clause-same_client g c = same_with c.release_used.ensures.released.pages

@@ -8,7 +8,8 @@ use Rattle.ostore_client_core.specs.Clients.{ClientView, client_view, with_pages
 use Rattle.ostore_client_core.specs.Calls.{OwnsPage}
 use Rattle.ostore_client_core.proofs.EntryLaws.{used_there, if_some, set_here, some_of}
 use Rattle.ostore_client_core.proofs.KeptLaws.{kept_set, view_pages}
-use Rattle.ostore_client_core.proofs.OwnLaws.{owns}
+use Rattle.ostore_client_core.proofs.GoesLaws.{own_still}
+use Rattle.ostore_client_core.proofs.OwnLaws.{owns, same_with}
 use Rattle.ostore_client_core.proofs.client.Client.own_page.Goals as goal
 
 pub invariant_of-self : goal.invariant_of-self
@@ -40,6 +41,11 @@ returns-clause-owned g c =
           ∙ ap is_owned (set_here page (held_as Owned is.entry) c.args.self.now.pages (some_of (entry_of c.args.self.now page) is.entry is.is));
     }
 
+pub returns-clause-same_client : goal.returns-clause-same_client
+returns-clause-same_client g c =
+    let o : OwnsPage c.args.self.now (client_view c.self.inside.schema.now c.self.inside.space c.own.new.self.pages c.own.new.self.most c.self.inside.fetches) c.args.page.0 = returns-clause-owned g c in
+    same_with o.client
+
 narrowed : goal.returns-clause-narrows
 narrowed g c =
     let o : OwnsPage c.args.self.now (client_view c.self.inside.schema.now c.self.inside.space c.own.new.self.pages c.own.new.self.most c.self.inside.fetches) c.args.page.0 = returns-clause-owned g c in
@@ -51,3 +57,7 @@ returns-clause-narrows g c = narrowed g c
 
 pub returns-clause-own : goal.returns-clause-own
 returns-clause-own g c = (narrowed g c).runs.own
+
+pub returns-in-Err-clause-own : goal.returns-in-Err-clause-own
+returns-in-Err-clause-own g c =
+    own_still (g.S.PageClaims.serves c.args.service.now) (g.S.PageClaims.serves c.claim_own.new.self) (g.S.PageClaims.tells c.args.service.now) (g.S.PageClaims.tells c.claim_own.new.self) c.args.self.now c.requires.runs.own c.in-Err.ensures.served c.in-Err.ensures.same.service c.in-Err.ensures.refused.pages

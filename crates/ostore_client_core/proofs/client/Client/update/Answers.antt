@@ -2,9 +2,11 @@ use Rattle.std.proofs.Common.{Bool, sym, subst, arith}
 use Rattle.ostore_page_service.specs.Told.{Numbers}
 use Rattle.ostore_client_core.specs.declared.release.Ending.TheVariants.{Committed}
 use Rattle.ostore_client_core.specs.Clients.{ClientView, stored_image, IsOwn}
+use Rattle.ostore_client_core.specs.Calls.{SameClient}
 use Rattle.ostore_client_core.specs.inside.Releasing.{EndsWith}
 use Rattle.ostore_client_core.proofs.CommitLaws.{fits}
-use Rattle.ostore_client_core.proofs.OwnLaws.{ended}
+use Rattle.ostore_client_core.proofs.OwnLaws.{ended, same_with}
+use Rattle.ostore_client_core.proofs.GoesLaws.{own_still}
 use Rattle.ostore_client_core.proofs.FinishLaws.{owned_are_fit, own_mid, ends_mid, finishes, serves_still}
 use Rattle.ostore_client_core.proofs.client.Client.update.Goals as goal
 
@@ -48,3 +50,15 @@ pub returns-in-Ok-commit-clause-served : goal.returns-in-Ok-commit-clause-served
 returns-in-Ok-commit-clause-served g c =
     serves_still (g.S.PageClaims.serves c.args.service.now) (g.S.PageClaims.serves c.commit.new.self) (g.S.PageClaims.tells c.args.service.now) (g.S.PageClaims.tells c.commit.new.self) c.args.self.now c.args.entry c.in-Ok-commit.number c.in-Ok.rec.pages c.requires.runs c.requires.fits c.in-Ok.ensures.writes c.in-Ok-commit.ensures.added c.in-Ok-commit.ensures.served
     (g.S.PageClaims.serves c.release_used.new.service) c.release_used.ensures.served
+
+pub returns-in-Ok-commit-clause-same_client : goal.returns-in-Ok-commit-clause-same_client
+returns-in-Ok-commit-clause-same_client g c = subst (λ (v : ClientView). SameClient v c.release_used.new.self) c.draft.ensures.same (same_with c.release_used.ensures.released.pages)
+
+pub returns-clause-own : goal.returns-clause-own
+returns-clause-own g c =
+    let told = g.S.PageClaims.tells c.args.service.now in
+    let later = g.S.PageClaims.serves c.commit.new.self in
+    let now = g.S.PageClaims.tells c.commit.new.self in
+    let e = c.in-Err.ensures in
+    subst (λ (v : ClientView). IsOwn later now v) (sym c.draft.ensures.same)
+    (own_still (g.S.PageClaims.serves c.args.service.now) later told now c.args.self.now c.requires.runs.own e.still e.failed.service e.failed.pages)
