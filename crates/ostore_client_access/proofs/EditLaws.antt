@@ -1,5 +1,5 @@
 -- What the edits of a holder are to the lists for which it may stand.
-use Rattle.std.proofs.Common.{◌≡◌, ℕ, zero, suc, false, eqb, ◌+◌, ◌^◌, ◌<◌, List, length, sym, ap, subst, ◌∙◌, arith}
+use Rattle.std.proofs.Common.{◌≡◌, ℕ, Bool, zero, suc, false, eqb, ◌+◌, ◌^◌, ◌<◌, List, length, sym, ap, subst, ◌∙◌, arith}
 use Rattle.std.specs.Prelude.{Result, Ok, Err, OnOk, IsSome, Option}
 use Rattle.byteorder.specs.Endian.{little_bytes}
 use Rattle.ostore_base.specs.Disk.{replaced}
@@ -42,9 +42,9 @@ some_bytes zero none = absurd (false≢true (sym none))
 some_bytes (suc n) none = omega arith
 
 -- bytes beside the cells of a page
-pub edited : (a b : Script → Type 0) (t u : Told Entry) (behind : List GName) (x new : ClientView) (page at : ℕ) (bytes : List ℕ) → Stands (access_held a t x) (CanPut (access_told t x behind) page at bytes) → PutsInto a b t u x new page at bytes
+pub edited : (a b : Script → Type 0) (t u : Told Entry) (k : Bool) (behind : List GName) (x new : ClientView) (page at : ℕ) (bytes : List ℕ) → Stands (access_held a t x) (CanPut (access_told k t x behind) page at bytes) → PutsInto a b t u x new page at bytes
     → Becomes (access_held a t x) (access_held b u new) (λ old now. now ≡ with_bytes old page at bytes)
-edited a b t u behind x new page at bytes stands p =
+edited a b t u k behind x new page at bytes stands p =
     let l = owned_list a b t u x new page at bytes p in
     let can = stands.each l.base l.list l.may in
     let own = p.narrows.runs.own in
@@ -59,10 +59,10 @@ edited a b t u behind x new page at bytes stands p =
 -- ---- pointers
 
 -- a pointer of a page
-pub pointed : (a b : Script → Type 0) (t u : Told Entry) (behind : List GName) (x new : ClientView) (page at pointer : ℕ) (bytes : List ℕ) → bytes ≡ little_bytes 4 pointer → pointer < 256 ^ 4 → IsSome (home_of x pointer)
-    → Stands (access_held a t x) (HasPointer (access_told t x behind) page at) → PutsInto a b t u x new page at bytes
+pub pointed : (a b : Script → Type 0) (t u : Told Entry) (k : Bool) (behind : List GName) (x new : ClientView) (page at pointer : ℕ) (bytes : List ℕ) → bytes ≡ little_bytes 4 pointer → pointer < 256 ^ 4 → IsSome (home_of x pointer)
+    → Stands (access_held a t x) (HasPointer (access_told k t x behind) page at) → PutsInto a b t u x new page at bytes
     → Becomes (access_held a t x) (access_held b u new) (λ old now. now ≡ with_pointer_at (stored_or_null (home_of x pointer)) page at old)
-pointed a b t u behind x new page at pointer bytes are fits leads stands p =
+pointed a b t u k behind x new page at pointer bytes are fits leads stands p =
     let l = owned_list a b t u x new page at bytes p in
     let has = stands.each l.base l.list l.may in
     let own = p.narrows.runs.own in
@@ -88,15 +88,15 @@ pointed a b t u behind x new page at pointer bytes are fits leads stands p =
 -- ---- cells
 
 -- bytes of a cell, beside its pointers
-pub in_cell : (a b : Script → Type 0) (t u : Told Entry) (behind : List GName) (x new : ClientView) (page offset at : ℕ) (bytes : List ℕ) → Stands (access_held a t x) (HasBytesInCell (access_told t x behind) page offset at (length bytes)) → PutsInto a b t u x new page (offset + at) bytes
+pub in_cell : (a b : Script → Type 0) (t u : Told Entry) (k : Bool) (behind : List GName) (x new : ClientView) (page offset at : ℕ) (bytes : List ℕ) → Stands (access_held a t x) (HasBytesInCell (access_told k t x behind) page offset at (length bytes)) → PutsInto a b t u x new page (offset + at) bytes
     → Becomes (access_held a t x) (access_held b u new) (λ old now. now ≡ with_bytes old page (offset + at) bytes)
-in_cell a b t u behind x new page offset at bytes stands p =
+in_cell a b t u k behind x new page offset at bytes stands p =
     let l = owned_list a b t u x new page (offset + at) bytes p in
     let has = stands.each l.base l.list l.may in
     let own = p.narrows.runs.own in
     let resident = own.resident page p.entry p.there in
     let was : List ℕ = stored_form p.owned.frames.pages p.owned.schema page p.entry.image.bytes in
-    let lies = subst (λ (s : Schema). LiesIn s page offset at (length bytes) was) (sym p.narrows.schema) (subst (LiesIn x.schema page offset at (length bytes)) l.bytes (lies_in t behind x page offset at (length bytes) l.list has)) in
+    let lies = subst (λ (s : Schema). LiesIn s page offset at (length bytes) was) (sym p.narrows.schema) (subst (LiesIn x.schema page offset at (length bytes)) l.bytes (lies_in t k behind x page offset at (length bytes) l.list has)) in
     let put = put_in_cell p.owned.schema page offset at bytes was resident.cells lies in
     becomes_edits a b t u x new page (offset + at) bytes (stands_runs a t x stands)
     (edits_put a b t u x new page (offset + at) bytes bytes p (puts_beside p.owned.frames.pages p.owned.schema page (offset + at) bytes p.entry.image.bytes own.frames.all resident.form put.puts) put.cells)

@@ -1,5 +1,5 @@
 -- Bytes in a live cell of a page, beside the cell's pointers.
-use Rattle.std.proofs.Common.{◌≡◌, ℕ, ◌+◌, ◌<◌, ◌≤◌, true, List, length, get_or, Some, refl, sym, ap, subst, ◌∙◌, arith}
+use Rattle.std.proofs.Common.{◌≡◌, ℕ, Bool, ◌+◌, ◌<◌, ◌≤◌, true, List, length, get_or, Some, refl, sym, ap, subst, ◌∙◌, arith}
 use Rattle.std.specs.List.{AllByRecursion, Contains, slice_get}
 use Rattle.std.specs.Option.{option_map}
 use Rattle.std.proofs.lemmas.Bool.{le-leb, eq-eqb}
@@ -44,8 +44,8 @@ pub record LiesIn (schema : Schema) (page offset at n : ℕ) (bytes : List ℕ) 
   pub within : at + n ≤ length cell.bytes
   pub beside : AllByRecursion (IsBeside at n) (pointers_of schema cell.row.code)
 
-pub lies_in : (t : Told Entry) (behind : List GName) (x : ClientView) (page offset at n : ℕ) (list : List PageImage) → HasBytesInCell (access_told t x behind) page offset at n list → LiesIn x.schema page offset at n (bytes_at list page)
-lies_in t behind x page offset at n list has = record {
+pub lies_in : (t : Told Entry) (k : Bool) (behind : List GName) (x : ClientView) (page offset at n : ℕ) (list : List PageImage) → HasBytesInCell (access_told k t x behind) page offset at n list → LiesIn x.schema page offset at n (bytes_at list page)
+lies_in t k behind x page offset at n list has = record {
   low = has.lies.0;
   good = has.good;
   cell = has.cell;

@@ -9,4 +9,5 @@ pub mod InCellLaws
 pub mod EditLaws
 pub mod RootWrites
 pub mod MadeLaws
+pub mod LineLaws
 pub mod TestLaws

@@ -22,7 +22,7 @@ use Rattle.ostore_client_cache.specs.Entries.{is_used, is_owner, is_in_use}
 use Rattle.ostore_client_cache.specs.Entries as entries
 use Rattle.ostore_client_cache.proofs.CountLaws.{long_set}
 use Rattle.ostore_client_core.specs.Cells.{HasCellsOf}
-use Rattle.ostore_client_core.specs.Clients.{ClientView, with_pages, entry_of, stored_image, is_page_used, IsResident, IsTied, IsTiedBy, AreUsedFirst}
+use Rattle.ostore_client_core.specs.Clients.{ClientView, with_pages, entry_of, stored_image, is_page_used, AreKnown, IsResident, IsTied, IsTiedBy, AreUsedFirst}
 use Rattle.ostore_client_core.specs.Attempts.{seen, seen_list, IsBase, Attempts, Narrows}
 use Rattle.ostore_client_core.proofs.EntryLaws.{Pages, some_of, set_here, set_other}
 use Rattle.ostore_client_core.proofs.TiedLaws.{same_at}
@@ -109,6 +109,8 @@ module _ (serves : Script → Type 0) (told : Told Entry) (old new : ClientView)
   more : Extends old new
   more = record {
     schema = ap (λ (v : ClientView). v.schema) s.client;
+    most = ap (λ (v : ClientView). v.most) s.client;
+    count = ap (λ (v : ClientView). length v.frames.pages) s.client;
     client = ap (λ (v : ClientView). v.frames.client) s.client;
     frames = subst (λ (v : ClientView). KeepsFrames old.frames.pages v.frames.pages) (sym s.client) (record { pages = λ f p e. e });
     paired = subst (λ (v : ClientView). ArePaired v.frames.pages) (sym s.client) runs.own.frames;
@@ -149,6 +151,7 @@ module _ (serves : Script → Type 0) (told : Told Entry) (old new : ClientView)
       }))
       | inr apart ↦ inl (keeps other apart)
     ];
+    framed = subst (λ (v : ClientView). AreKnown (length told.opened) v.frames.pages) (sym s.client) runs.own.framed;
     short = short;
     first = subst AreUsedFirst (sym pages) (first_set page old.pages s.entry now s.there refl runs.own.first);
   }

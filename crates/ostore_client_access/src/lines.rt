@@ -1,6 +1,6 @@
 //! The lines of a transaction that an attempt executes on its client's pages, one by one.
 
-ghost use Rattle.std.specs.Prelude.{◌≡◌, ◌<◌, ◌≤◌, ℕ, true, None, [], length, IfErr, OnErr, OnOk};
+ghost use Rattle.std.specs.Prelude.{◌≡◌, ◌<◌, ◌≤◌, ℕ, true, List, None, [], length, IfErr, OnErr, OnOk};
 ghost use Rattle.std.specs.List.{AllByRecursion};
 ghost use Rattle.ostore_schema_layout.specs.Lawful.{IsLawful};
 ghost use Rattle.ostore_client_core.specs.Clients.{IsIdle, IsOwn};

@@ -1,6 +1,7 @@
-use Rattle.std.proofs.Common.{◌/◌}
+use Rattle.std.proofs.Common.{true, false, sym, ◌/◌}
+use Rattle.std.proofs.lemmas.Bool.{false≢true}
 use Rattle.ostore_client_access.specs.inside.Passing.{passes_then, fails_then}
-use Rattle.ostore_client_access.proofs.PassLaws.{narrows_then, own_fails}
+use Rattle.ostore_client_access.proofs.PassLaws.{narrows_then, passes_any, fails_any, own_fails}
 use Rattle.ostore_client_access.proofs.puts.own_page.Goals as goal
 
 pub returns-in-Ok-own-clause-narrows : goal.returns-in-Ok-own-clause-narrows
@@ -8,12 +9,15 @@ returns-in-Ok-own-clause-narrows g c = narrows_then (g.S.PageClaims.serves c.arg
     (g.S.PageClaims.tells c.own.new.service) c.args.client.now c.enter_page.new.client c.own.new.self c.in-Ok.ensures.narrows c.in-Ok-own.ensures.narrows
 
 pub returns-in-Ok-own-clause-passes : goal.returns-in-Ok-own-clause-passes
-returns-in-Ok-own-clause-passes g c = passes_then (g.S.PageClaims.serves c.args.service.now) (g.S.PageClaims.serves c.enter_page.new.service) (g.S.PageClaims.serves c.own.new.service) (g.S.PageClaims.tells c.args.service.now) (g.S.PageClaims.tells c.enter_page.new.service)
-    (g.S.PageClaims.tells c.own.new.service) c.args.client.now c.enter_page.new.client c.own.new.self c.in-Ok.ensures.passes
-    (record { same = c.in-Ok-own.ensures.same; served = c.in-Ok-own.ensures.served; calm = c.in-Ok-own.ensures.calm; schema = c.in-Ok-own.ensures.narrows.schema })
+returns-in-Ok-own-clause-passes g c = passes_then true (g.S.PageClaims.serves c.args.service.now) (g.S.PageClaims.serves c.enter_page.new.service) (g.S.PageClaims.serves c.own.new.service) (g.S.PageClaims.tells c.args.service.now) (g.S.PageClaims.tells c.enter_page.new.service)
+    (g.S.PageClaims.tells c.own.new.service) c.args.client.now c.enter_page.new.client c.own.new.self (passes_any true (g.S.PageClaims.serves c.args.service.now) (g.S.PageClaims.serves c.enter_page.new.service) (g.S.PageClaims.tells c.args.service.now) (g.S.PageClaims.tells c.enter_page.new.service) c.args.client.now c.enter_page.new.client c.in-Ok.ensures.passes)
+    (record { same = c.in-Ok-own.ensures.same; served = c.in-Ok-own.ensures.served; calm = c.in-Ok-own.ensures.calm; client = c.in-Ok-own.ensures.same_client; owned = λ reads. absurd (false≢true (sym reads)) })
+
+pub returns-in-Err-clause-fails : goal.returns-in-Err-clause-fails
+returns-in-Err-clause-fails g c = fails_any true c.in-Err.fault (g.S.PageClaims.serves c.args.service.now) (g.S.PageClaims.serves c.enter_page.new.service) (g.S.PageClaims.tells c.args.service.now) (g.S.PageClaims.tells c.enter_page.new.service) c.args.client.now c.enter_page.new.client c.in-Err.ensures.fails
 
 pub returns-in-Err-own-clause-fails : goal.returns-in-Err-own-clause-fails
-returns-in-Err-own-clause-fails g c = fails_then (g.S.PageClaims.serves c.args.service.now) (g.S.PageClaims.serves c.enter_page.new.service) (g.S.PageClaims.serves c.own.new.service) (g.S.PageClaims.tells c.args.service.now) (g.S.PageClaims.tells c.enter_page.new.service)
-    (g.S.PageClaims.tells c.own.new.service) c.args.client.now c.enter_page.new.client c.own.new.self c.in-Err-own.fault c.in-Ok.ensures.passes
+returns-in-Err-own-clause-fails g c = fails_then true (g.S.PageClaims.serves c.args.service.now) (g.S.PageClaims.serves c.enter_page.new.service) (g.S.PageClaims.serves c.own.new.service) (g.S.PageClaims.tells c.args.service.now) (g.S.PageClaims.tells c.enter_page.new.service)
+    (g.S.PageClaims.tells c.own.new.service) c.args.client.now c.enter_page.new.client c.own.new.self c.in-Err-own.fault (passes_any true (g.S.PageClaims.serves c.args.service.now) (g.S.PageClaims.serves c.enter_page.new.service) (g.S.PageClaims.tells c.args.service.now) (g.S.PageClaims.tells c.enter_page.new.service) c.args.client.now c.enter_page.new.client c.in-Ok.ensures.passes)
     (own_fails (g.S.PageClaims.serves c.enter_page.new.service) (g.S.PageClaims.serves c.own.new.service) (g.S.PageClaims.tells c.enter_page.new.service) (g.S.PageClaims.tells c.own.new.service) c.in-Err-own.fault c.enter_page.new.client c.own.new.self c.args.page (c.in-Ok.address / 4096)
-    c.in-Ok.ensures.address.leads c.in-Err-own.ensures.refused c.in-Err-own.ensures.own c.in-Err-own.ensures.same c.in-Err-own.ensures.served)
+    c.in-Ok.ensures.address.leads c.in-Err-own.ensures.refused c.in-Err-own.ensures.own c.in-Err-own.ensures.same c.in-Err-own.ensures.served c.in-Err-own.ensures.same_client)

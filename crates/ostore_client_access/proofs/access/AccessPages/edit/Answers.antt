@@ -2,6 +2,7 @@ use Rattle.std.proofs.Common.{length, sym, ◌∙◌, arith}
 use Rattle.std.proofs.lemmas.Bool.{eqb-true}
 use Rattle.ostore_client_access.proofs.AccessLaws.{stands_range, becomes_none}
 use Rattle.ostore_client_access.proofs.EditLaws.{edited, ok_map, some_bytes}
+use Rattle.ostore_client_access.proofs.PassLaws.{holder_updates, holder_writes, holder_passed, holder_failed}
 use Rattle.ostore_client_access.proofs.access.AccessPages.edit.Goals as goal
 
 pub returns-then-is_empty-clause-lists : goal.returns-then-is_empty-clause-lists
@@ -24,5 +25,16 @@ put-requires-clause-within g c =
     omega arith
 
 pub returns-clause-lists : goal.returns-clause-lists
-returns-clause-lists g c = ok_map _ _ c.put.result (edited (g.S.PageClaims.serves c.args.self.now.service.now) (g.S.PageClaims.serves c.put.new.service) (g.S.PageClaims.tells c.args.self.now.service.now) (g.S.PageClaims.tells c.put.new.service) _
+returns-clause-lists g c = ok_map _ _ c.put.result (edited (g.S.PageClaims.serves c.args.self.now.service.now) (g.S.PageClaims.serves c.put.new.service) (g.S.PageClaims.tells c.args.self.now.service.now) (g.S.PageClaims.tells c.put.new.service) _ _
     c.args.self.now.client.now c.put.new.client c.args.page.0 c.args.at c.args.bytes.now c.requires.puts) c.put.ensures.puts
+
+pub put-requires-clause-writer : goal.put-requires-clause-writer
+put-requires-clause-writer g c = holder_writes _ _ c.requires.may
+
+pub returns-clause-passes : goal.returns-clause-passes
+returns-clause-passes g c = holder_passed c.args.self.now.updates (g.S.PageClaims.serves c.args.self.now.service.now) (g.S.PageClaims.serves c.put.new.service) (g.S.PageClaims.tells c.args.self.now.service.now) (g.S.PageClaims.tells c.put.new.service) c.args.self.now.client.now c.put.new.client c.put.result
+    (holder_updates _ _ c.requires.may) c.put.ensures.passes
+
+pub returns-clause-fails : goal.returns-clause-fails
+returns-clause-fails g c = holder_failed c.args.self.now.updates (g.S.PageClaims.serves c.args.self.now.service.now) (g.S.PageClaims.serves c.put.new.service) (g.S.PageClaims.tells c.args.self.now.service.now) (g.S.PageClaims.tells c.put.new.service) c.args.self.now.client.now c.put.new.client c.put.result
+    (holder_updates _ _ c.requires.may) c.put.ensures.fails

@@ -2,6 +2,7 @@ use Rattle.std.proofs.Common.{length, ap, ◌∙◌, arith}
 use Rattle.byteorder.specs.Numbers.{length-bytes_low_first}
 use Rattle.ostore_client_access.proofs.AccessLaws.{stands_range}
 use Rattle.ostore_client_access.proofs.EditLaws.{pointed, ok_map}
+use Rattle.ostore_client_access.proofs.PassLaws.{holder_updates, holder_writes, holder_passed, holder_failed}
 use Rattle.ostore_client_access.proofs.access.AccessPages.edit_pointer.Goals as goal
 
 pub put-requires-clause-known : goal.put-requires-clause-known
@@ -21,5 +22,16 @@ put-requires-clause-within g c =
     omega arith
 
 pub returns-clause-lists : goal.returns-clause-lists
-returns-clause-lists g c = ok_map _ _ c.put.result (pointed (g.S.PageClaims.serves c.args.self.now.service.now) (g.S.PageClaims.serves c.put.new.service) (g.S.PageClaims.tells c.args.self.now.service.now) (g.S.PageClaims.tells c.put.new.service) _
+returns-clause-lists g c = ok_map _ _ c.put.result (pointed (g.S.PageClaims.serves c.args.self.now.service.now) (g.S.PageClaims.serves c.put.new.service) (g.S.PageClaims.tells c.args.self.now.service.now) (g.S.PageClaims.tells c.put.new.service) _ _
     c.args.self.now.client.now c.put.new.client c.args.page.0 c.args.at c.args.pointer _ c.to_le_bytes.ensures c.ranges.pointer.fits c.requires.leads c.requires.there) c.put.ensures.puts
+
+pub put-requires-clause-writer : goal.put-requires-clause-writer
+put-requires-clause-writer g c = holder_writes _ _ c.requires.may
+
+pub returns-clause-passes : goal.returns-clause-passes
+returns-clause-passes g c = holder_passed c.args.self.now.updates (g.S.PageClaims.serves c.args.self.now.service.now) (g.S.PageClaims.serves c.put.new.service) (g.S.PageClaims.tells c.args.self.now.service.now) (g.S.PageClaims.tells c.put.new.service) c.args.self.now.client.now c.put.new.client c.put.result
+    (holder_updates _ _ c.requires.may) c.put.ensures.passes
+
+pub returns-clause-fails : goal.returns-clause-fails
+returns-clause-fails g c = holder_failed c.args.self.now.updates (g.S.PageClaims.serves c.args.self.now.service.now) (g.S.PageClaims.serves c.put.new.service) (g.S.PageClaims.tells c.args.self.now.service.now) (g.S.PageClaims.tells c.put.new.service) c.args.self.now.client.now c.put.new.client c.put.result
+    (holder_updates _ _ c.requires.may) c.put.ensures.fails
