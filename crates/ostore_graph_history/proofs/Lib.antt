@@ -1,1 +1,9 @@
+pub mod ListLaws
+pub mod Groups
+pub mod OrderedHistories
 pub mod HistoryLaws
+pub mod GrowthSums
+pub mod StepGrowth
+pub mod Weights
+pub mod SpaceLaws
+pub mod IntLaws
