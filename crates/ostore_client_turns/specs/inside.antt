@@ -1,2 +1,3 @@
 pub mod Stores
+pub mod Seats
 pub mod Turning

@@ -1,7 +1,7 @@
 //! Why an attempt ended, as a report says it.
 
 ghost use Rattle.std.specs.Prelude.{◌≡◌};
-ghost use Rattle.ostore_client_turns.specs.Causes.{cause_of};
+ghost use Rattle.ostore_client_turns.specs.Causes.{cause_of, cause_of_commit};
 
 use ostore_client_core::AttemptFault;
 use ostore_page_service::CommitFault;

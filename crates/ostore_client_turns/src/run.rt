@@ -10,13 +10,17 @@ ghost use Rattle.ostore_job_text.specs.LawfulJob.{HasLawfulSettings};
 ghost use Rattle.ostore_job_text.specs.RunnableJobs.{CanRun};
 ghost use Rattle.ostore_client_turns.specs.Runs.{AreBuilt, IsRunOf, script_of};
 
+use crate::seat::{fetches_of, seats_of};
+use crate::store::Store;
 use ostore_address_space::Mapper;
 use ostore_base::{Disk, OutOfMemory};
 use ostore_client_core::GraphKind;
 use ostore_job_text::Job;
+use ostore_graph_history::history_is_legal;
 use ostore_page_service::SeqServer;
 use ostore_run_report::{Results, Tail};
 use ostore_schema_layout::Schema;
+use ostore_turns::{results_are_records, take_turns};
 use std::alloc::Global;
 
 /// What a run gave: what became of the transactions, and the last lines of its report.
@@ -29,12 +33,12 @@ pub struct Run {
 /// Executes the clients of a job by turns on the pages of a server that has served nobody yet. Each client has an address
 /// space and a cache as its options say; the mapper chooses its frames. The tail has the number of the last commit, and
 /// how many pages all clients fetched together. Want of memory may end it at any turn, and then nothing is told.
-pub fn run_turns<D: Disk, M: Mapper>(
+pub fn run_turns<'a, D: Disk, M: Mapper>(
     alloc: Global,
-    schema: &Schema,
-    job: &Job,
+    schema: &'a Schema,
+    job: &'a Job,
     server: &mut SeqServer<GraphKind, D>,
-    mapper: &M,
+    mapper: &'a M,
 ) -> Result<Run, OutOfMemory>
     requires job { CanRun job.now }
     requires settings { AllByRecursion HasLawfulSettings job.now.clients }
@@ -47,6 +51,24 @@ pub fn run_turns<D: Disk, M: Mapper>(
     ensures { IfOk result (IsRunOf schema.now job.now (first_of server.old) (opened_of server.old)
         (pages_of server.new).images) }
 {
-    let _ = (alloc, schema, job, server, mapper);
-    Err(OutOfMemory)
+    let seats = seats_of(alloc, schema, job, server, mapper)?;
+    let mut store = Store {
+        alloc,
+        server,
+        schema,
+        job,
+        seats,
+    };
+    let ran = take_turns(alloc, job, &mut store)?;
+    results_are_records();
+    history_is_legal();
+    let tail = Tail {
+        disk_fault_after: None,
+        commits: store.server.number(),
+        fetches: Some(fetches_of(&store.seats)),
+    };
+    Ok(Run {
+        results: ran.results,
+        tail,
+    })
 }

@@ -1,5 +1,5 @@
 -- The clients of a job at a server: where each of them is, and what its service holds for it.
-use Rattle.std.specs.Prelude.{◌≡◌, ◌<◌, ◌≤◌, ◌+◌, ℕ, false, List, length, map, Option, Some, None, All}
+use Rattle.std.specs.Prelude.{◌≡◌, ◌<◌, ◌≤◌, ◌+◌, ℕ, true, false, nat_lt, if◌then◌else◌, List, [], length, map, Option, Some, None, All}
 use Rattle.std.specs.List.{slice_get, AllByRecursion}
 use Rattle.std.specs.Borrow.{GName}
 use Rattle.ostore_base.specs.Limits.{most_clients}
@@ -30,12 +30,17 @@ pub record SeatView : Type 0 where
   pub attempt : Attempt
   pub place : Place
 
+-- where a client is
+abbrev pub place_of : Option SeatView → Place
+place_of None = first_place
+place_of (Some seat) = seat.place
+
 -- It has as many pages and frames as its options say; its service is its own; its attempt is at its place, and where it has no
 -- line left, no page is in use. What it has committed comes before its place.
 pub record IsSeated (serves : Script → Type 0) (told : Told Entry) (schema : Schema) (client : JobClient) (seat : SeatView)
     : Type 0 where
   pub own : IsOwn serves told seat.client
-  pub schema : seat.client.schema ≡ schema
+  pub of_schema : seat.client.schema ≡ schema
   pub most : seat.client.most ≡ client.cache
   pub frames : length seat.client.frames.pages ≡ client.frames
   pub line : seat.place.line ≡ line_at seat.attempt
@@ -56,6 +61,26 @@ pub record AreSeated (serves : Script → Type 0) (told : ℕ → Told Entry) (s
       → (seat : SeatView) × (seats number ≡ Some seat) × IsSeated serves (told number) schema client seat
   pub vacant : (number : ℕ) → length clients ≤ number → number < most_clients → IsVacant (told number)
 
+-- at the first line of its script
+pub record IsFreshSeat (serves : Script → Type 0) (told : Told Entry) (schema : Schema) (client : JobClient) (seat : SeatView)
+    : Type 0 where
+  pub seated : IsSeated serves told schema client seat
+  pub first : seat.place ≡ first_place
+
+pub record AreFreshSeats (serves : Script → Type 0) (told : ℕ → Told Entry) (schema : Schema) (clients : List JobClient)
+    (seats : ℕ → Option SeatView) : Type 0 where
+  pub seated : AreSeated serves told schema clients seats
+  pub first : (number : ℕ) → place_of (seats number) ≡ first_place
+
+-- what one server tells as the services of all its clients
+pub record AreTold (told : ℕ → Told Entry) (opened : List PageImage) (commits : ℕ) : Type 0 where
+  pub client : (number : ℕ) → (told number).client ≡ number
+  pub opens : (number : ℕ) → (told number).opened ≡ opened
+  pub tells : (number : ℕ) → (told number).tells_others ≡ true
+  pub others : (number other : ℕ) → (told number).others other ≡ (told other).mine
+  pub reached : (number : ℕ) → (told number).number ≡ Some commits
+  pub sound : (number : ℕ) → (told number).may_fail ≡ false
+
 -- a job that can be executed on pages of the schema
 pub record IsExecutable (schema : Schema) (job : Job) : Type 0 where
   pub few : length job.clients ≤ most_clients
@@ -72,20 +97,17 @@ pub record IsReady (serves : Script → Type 0) (told : ℕ → Told Entry) (sch
 
 -- ---- what a run by turns sees of them
 
--- where a client is
-abbrev pub place_of : Option SeatView → Place
-place_of None = first_place
-place_of (Some seat) = seat.place
-
-abbrev pub recorded : Told Entry → List Committed
-recorded told = map committed_entry told.mine.records
+-- what a client has committed, where the server serves so many
+abbrev pub recorded : (ℕ → Told Entry) → ℕ → List Committed
+recorded told client = if nat_lt client most_clients then map committed_entry (told client).mine.records else []
 
 -- where each client is, and what it has committed
+-- where each client is, and what it has committed
 abbrev pub moment_in : (ℕ → Told Entry) → ℕ → (ℕ → Option SeatView) → Moment
-moment_in told number seats = moment_of (λ client. place_of (seats client)) (λ client. recorded (told client)) number
+moment_in told number seats = moment_of (λ client. place_of (seats client)) (recorded told) number
 
 -- what no turn changes: the reference to the server, what it opened, and what is run on it
-pub record Constants : Type 0 where
+pub record StoreConstants : Type 0 where
   pub behind : GName
   pub first : ℕ
   pub opened : List PageImage

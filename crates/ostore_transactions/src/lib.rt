@@ -1,0 +1,12 @@
+//! Attempts of clients at transactions, executed line by line or whole.
+#![tactic(auto)]
+
+mod attempt;
+mod copies;
+mod line;
+mod steps;
+mod whole;
+
+pub use attempt::Attempt;
+pub use line::{Line, run_line};
+pub use whole::{Ended, run_attempt};
