@@ -13,26 +13,9 @@ fn large_schema(alloc: Global) -> Result<String, Fail> {
     Ok(schema)
 }
 
+/// A segment takes all 1,014 free pages, and another one finds none.
 #[test]
 fn no_page_is_free(rt: HostRuntime) -> Result<(), Fail> {
-    let mut text = large_schema(rt.alloc())?;
-    text.push_str("job\nclient a cache 1024\nbegin\n")?;
-    // one object more than 1,014 pages hold
-    for _ in 0..15_211u32 {
-        text.push_str("new $p Part 7\n")?;
-    }
-    text.push_str("commit\nbegin\nnew $p Part 7\nget $p.m31\ncommit\n")?;
-    expect_run(
-        &rt,
-        rt.alloc(),
-        text.as_str(),
-        1,
-        "a.1 gaveup 1 nospace 7 264\na.2 commit 1\n  7.1\n  0\ncommits 1\n",
-    )
-}
-
-#[test]
-fn another_segment_finds_no_page(rt: HostRuntime) -> Result<(), Fail> {
     let mut text = large_schema(rt.alloc())?;
     text.push_str("job\nclient a cache 1024\nbegin\n")?;
     let mut report = String::from_str(rt.alloc(), "a.1 commit 1\n")?;
