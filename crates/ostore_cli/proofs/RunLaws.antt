@@ -29,7 +29,7 @@ use Rattle.ostore_run_report.specs.declared.results.TxnResult.TheVariants.{Commi
 use Rattle.ostore_run_report.specs.Results.{committed_of}
 use Rattle.ostore_turns.specs.Alone.{ClientsRunAlone, WasAlone, AreOneAfterTheOther}
 use Rattle.ostore_turns.specs.Bounds.{Bounds, IsBounded, IsResultWithin, AreBounded}
-use Rattle.ostore_turns.specs.RightResults.{IsRight, ResultsAreRight}
+use Rattle.ostore_turns.specs.RightResults.{IsRightResult, ResultsAreRight}
 use Rattle.ostore_turns.specs.TurnResults.{AllByClient, AllByTxn}
 use Rattle.ostore_graph_history.specs.Histories.{IsHistoryTo}
 use Rattle.ostore_client_turns.specs.declared.run.Run.{Run}
@@ -66,14 +66,14 @@ module _ (script : Script) (text : List ℕ) (one : LawOfOneGraph) (stands : Sta
 
   -- ---- how each transaction ended
 
-  ends_as : (client : JobClient) (txn : Txn) (result : TxnResult) → IsRight false client txn result → WasAlone result → IsResultWithin (bounds_of script (fresh_list text all_pages)) client result → EndsAs (fresh_bounds script) client txn result
+  ends_as : (client : JobClient) (txn : Txn) (result : TxnResult) → IsRightResult false client txn result → WasAlone result → IsResultWithin (bounds_of script (fresh_list text all_pages)) client result → EndsAs (fresh_bounds script) client txn result
   ends_as client txn (Commit number tries replies) right alone within = (alone, right.0, right.1)
   ends_as client txn (Read number tries replies) right alone within = (alone, right.0, right.1)
   ends_as client txn (Abort tries) right alone within = (alone, right.0)
   ends_as client txn (GaveUp tries cause) right alone within = (alone.0, alone.1, cause_within client cause within)
   ends_as client txn NotRun right alone within = absurd (false≢true right)
 
-  txns_end : (client : JobClient) (txns : List Txn) (results : List TxnResult) → AllByTxn (IsRight false client) txns results → AllByRecursion WasAlone results
+  txns_end : (client : JobClient) (txns : List Txn) (results : List TxnResult) → AllByTxn (IsRightResult false client) txns results → AllByRecursion WasAlone results
       → AllByRecursion (IsResultWithin (bounds_of script (fresh_list text all_pages)) client) results → AllByTxn (EndsAs (fresh_bounds script) client) txns results
   txns_end client [] [] right alone within = tt
   txns_end client [] (result ∷ results) right alone within = absurd right
@@ -81,7 +81,7 @@ module _ (script : Script) (text : List ℕ) (one : LawOfOneGraph) (stands : Sta
   txns_end client (txn ∷ txns) (result ∷ results) right alone within =
       (ends_as client txn result right.0 alone.0 within.0, txns_end client txns results right.1 alone.1 within.1)
 
-  all_end : (clients : List JobClient) (results : List (List TxnResult)) → AllByClient (λ client mine. AllByTxn (IsRight false client) client.txns mine) clients results
+  all_end : (clients : List JobClient) (results : List (List TxnResult)) → AllByClient (λ client mine. AllByTxn (IsRightResult false client) client.txns mine) clients results
       → AllByRecursion (AllByRecursion WasAlone) results → AreBounded (bounds_of script (fresh_list text all_pages)) clients results → AllEnd (fresh_bounds script) clients results
   all_end [] [] right alone within = tt
   all_end [] (mine ∷ others) right alone within = absurd right
