@@ -1,5 +1,5 @@
 -- Two reports of one text are equal, where no transaction was given up.
-use Rattle.std.proofs.Common.{◌≡◌, length, map, refl, sym, ap, subst, ◌∙◌}
+use Rattle.std.proofs.Common.{◌≡◌, length, map, sym, ap, subst, ◌∙◌}
 use Rattle.ostore_graph_model.specs.History.{IsLegalHistory, updates}
 use Rattle.ostore_graph_model.specs.Graph.{empty_graph}
 use Rattle.ostore_graph_model.proofs.SerialHistories.{serial_is_one}

@@ -1,5 +1,5 @@
 -- A job that ran on fresh pages, one client after the other, came to what is promised.
-use Rattle.std.proofs.Common.{◌≡◌, ℕ, ◌+◌, ◌<◌, ◌≤◌, Bool, true, false, List, [], ◌∷◌, length, Result, Ok, Err, refl, ap, subst, ◌∙◌, arith}
+use Rattle.std.proofs.Common.{◌≡◌, ℕ, ◌<◌, ◌≤◌, false, List, [], ◌∷◌, length, Result, Ok, Err, refl, ap, subst, ◌∙◌, arith}
 use Rattle.std.specs.Prelude.{IfOk}
 use Rattle.std.specs.List.{AllByRecursion}
 use Rattle.std.proofs.lemmas.Bool.{false≢true}
@@ -14,7 +14,7 @@ use Rattle.ostore_graph_model.specs.declared.commands.Script.{Script}
 use Rattle.ostore_graph_model.specs.declared.commands.Txn.{Txn}
 use Rattle.ostore_graph_model.specs.Graph.{Graph, empty_graph}
 use Rattle.ostore_graph_model.specs.Growth.{script_growth}
-use Rattle.ostore_graph_model.specs.History.{IsLegalHistory, updates}
+use Rattle.ostore_graph_model.specs.History.{IsLegalHistory}
 use Rattle.ostore_graph_model.specs.LawsOfFreshPages.{LawOfFreshPages}
 use Rattle.ostore_graph_model.specs.LawsOfMeaning.{LawOfOneGraph}
 use Rattle.ostore_graph_model.specs.StandsFor.{StandsFor}
@@ -28,7 +28,7 @@ use Rattle.ostore_run_report.specs.declared.results.TxnResult.{TxnResult}
 use Rattle.ostore_run_report.specs.declared.results.TxnResult.TheVariants.{Commit, Read, Abort, GaveUp, NotRun}
 use Rattle.ostore_run_report.specs.Results.{committed_of}
 use Rattle.ostore_turns.specs.Alone.{ClientsRunAlone, WasAlone, AreOneAfterTheOther}
-use Rattle.ostore_turns.specs.Bounds.{Bounds, IsBounded, IsResultWithin, AreBounded}
+use Rattle.ostore_turns.specs.Bounds.{IsBounded, IsResultWithin, AreBounded}
 use Rattle.ostore_turns.specs.RightResults.{IsRightResult, ResultsAreRight}
 use Rattle.ostore_turns.specs.TurnResults.{AllByClient, AllByTxn}
 use Rattle.ostore_graph_history.specs.Histories.{IsHistoryTo}

@@ -1,5 +1,5 @@
 -- How the text of `try` is run.
-use Rattle.std.specs.Prelude.{◌≡◌, ℕ, List, length, Some, None}
+use Rattle.std.specs.Prelude.{◌≡◌, ℕ, List, length, None}
 use Rattle.ostore_base.specs.declared.page.PageImage.{PageImage}
 use Rattle.ostore_page_tags.specs.FreshPages.{fresh_list}
 use Rattle.ostore_graph_model.specs.Graph.{Graph}
