@@ -1,5 +1,5 @@
 -- The lines of a transaction, executed in an attempt one by one.
-use Rattle.std.proofs.Common.{◌≡◌, ◌≤◌, ℕ, false, List, [], length, refl, sym, ap, subst, ◌∙◌}
+use Rattle.std.proofs.Common.{◌≡◌, ◌≤◌, ℕ, true, false, List, [], length, refl, sym, ap, subst, ◌∙◌}
 use Rattle.std.specs.Prelude.{None, Result, Ok, Err, OnOk}
 use Rattle.std.specs.Option.{option_map}
 use Rattle.ostore_base.specs.declared.page.PageImage.{PageImage}
@@ -21,7 +21,7 @@ use Rattle.ostore_object_ops.specs.Progresses.{replies_of, bound_in, leads_by}
 use Rattle.ostore_object_ops.specs.Lines.{RunsLine, LacksLine, HasRun}
 use Rattle.ostore_object_ops.proofs.RunLaws.{first_lines, next_lines, meanings, last_lines, lacks_growth}
 use Rattle.ostore_client_access.specs.Accesses.{access_held, Passes}
-use Rattle.ostore_client_access.specs.Attempts.{HasRunLines, AddsReply, LacksOnEach, HasMade}
+use Rattle.ostore_client_access.specs.Attempts.{HasRunLines, AddsReply, FindsNoPlace, LacksOnEach, HasMade}
 use Rattle.ostore_client_access.proofs.MadeLaws.{idle_owns, owns_nothing}
 
 pub no_line_ran : (a : Script → Type 0) (t : Told Entry) (x : ClientView) (txn : Txn) (progress : Progress) → Attempts a t x → IsIdle x → replies_of progress ≡ [] → ((variable : List ℕ) → bound_in progress variable ≡ None) → HasRunLines a t x txn progress
@@ -76,6 +76,15 @@ module _ (a b : Script → Type 0) (t u : Told Entry) (x y : ClientView) (schema
         let early = one.from base (seen_list y base) (record { runs = one.some.2.runs; began = began; made = refl }) in
         lacks_growth schema txn (replies_of progress) (leads_by before progress) base early.0 lack (ran_before base early.0 early.1) early.2.1;
   }
+
+  pub line_place : y.schema ≡ x.schema → (lack : NoSpace) → Becomes before after (Sees (LacksLine schema txn (replies_of progress) lack)) → FindsNoPlace b u y txn (replies_of progress) lack
+  line_place kept lack one = λ base list may.
+      let early = one.from base list may in
+      subst (λ (s : Schema). LacksLine s txn (replies_of progress) lack list) (sym (kept ∙ same))
+      (subst (LacksLine schema txn (replies_of progress) lack) (sym early.2.0) early.2.1)
+
+  pub line_updates : (lack : NoSpace) → Becomes before after (Sees (LacksLine schema txn (replies_of progress) lack)) → txn.update ≡ true
+  line_updates lack one = (let line = (one.from one.some.0 one.some.1 one.some.2).2.1 in line.2.may)
 
 pub lines_made : (a : Script → Type 0) (t : Told Entry) (x : ClientView) (txn : Txn) (progress : Progress) → HasRunLines a t x txn progress → length txn.commands ≤ length (replies_of progress) → HasMade a t x txn (replies_of progress)
 lines_made a t x txn progress lines end = record {

@@ -136,6 +136,10 @@ own_line P Q R k l a b t u x y (Err (stops.Fault fault)) lists stopped space mem
 own_line P Q R k l a b t u x y (Err (stops.NoSpace lack)) lists stopped space memory = space.some.2.runs.own
 own_line P Q R k l a b t u x y (Err stops.OutOfMemory) lists stopped space memory = memory.some.2.runs.own
 
+pub space_map : {T : Type 0} (P Q : NoSpace → Type 0) (r : Result T (Stop AttemptFault)) → ((lack : NoSpace) → P lack → Q lack) → IfErr r (IfNoSpace P) → IfErr r (IfNoSpace Q)
+space_map P Q (Ok value) more one = one
+space_map P Q (Err stop) more one = no_space_map P Q stop more one
+
 pub space_lacks : {T : Type 0} (P : NoSpace → List PageImage → List PageImage → Type 0) (a b : Script → Type 0) (t u : Told Entry) (x y : ClientView) (txn : Txn) (r : Result T (Stop AttemptFault)) → ((no : NoSpace) → Becomes (access_held a t x) (access_held b u y) (P no) → LacksOnEach b u y txn)
     → IfErr r (IfNoSpace (λ no. Becomes (access_held a t x) (access_held b u y) (P no))) → IfErr r (IfNoSpace (λ no. LacksOnEach b u y txn))
 space_lacks P a b t u x y txn (Ok value) more one = one

@@ -1,6 +1,7 @@
 -- A transaction whose commands an attempt executes.
 use Rattle.std.specs.Prelude.{◌≡◌, ◌<◌, ℕ, false, List, [], ◌∷◌, ◌++◌, All}
 use Rattle.ostore_base.specs.declared.page.PageImage.{PageImage}
+use Rattle.ostore_segments.specs.declared.placement.NoSpace.{NoSpace}
 use Rattle.ostore_page_service.specs.Told.{Told}
 use Rattle.ostore_graph_model.specs.declared.values.Reply.{Reply}
 use Rattle.ostore_graph_model.specs.declared.commands.Script.{Script}
@@ -12,7 +13,7 @@ use Rattle.ostore_client_core.specs.Attempts.{IsBase, Attempts, MayBe}
 use Rattle.ostore_client_core.specs.Commits.{FitsFor}
 use Rattle.ostore_object_ops.specs.declared.progress.Progress.{Progress}
 use Rattle.ostore_object_ops.specs.Progresses.{replies_of, leads_by}
-use Rattle.ostore_object_ops.specs.Lines.{HasRun, Transacts, LacksGrowth}
+use Rattle.ostore_object_ops.specs.Lines.{LacksLine, HasRun, Transacts, LacksGrowth}
 use Rattle.ostore_client_access.specs.Accesses.{access_held, OwnsNothing}
 
 -- ---- lines
@@ -29,6 +30,11 @@ pub record HasRunLines (serves : Script → Type 0) (told : Told Entry) (client 
 -- there is one reply more, the last one
 abbrev pub AddsReply : List Reply → List Reply → Type 0
 AddsReply replies more = (reply : Reply) × (more ≡ replies ++ reply ∷ [])
+
+-- the line behind these replies finds no place for its object, on whatever list the attempt has made
+abbrev pub FindsNoPlace : (Script → Type 0) → Told Entry → ClientView → Txn → List Reply → NoSpace → Type 0
+FindsNoPlace serves told client txn replies lack =
+    (base list : List PageImage) → MayBe serves told client base list → LacksLine client.schema txn replies lack list
 
 -- on each list on which the attempt may have begun, fewer pages were free than the transaction may take
 pub record LacksOnEach (serves : Script → Type 0) (told : Told Entry) (client : ClientView) (txn : Txn) : Type 0 where

@@ -138,9 +138,9 @@ fn read_a_line<M: Mapper, S: PageService<GraphKind>>(
     }
     let mut progress = Progress::new(alloc);
     no_line_has_run(client, service, txn, &progress);
-    if execute_line(client, service, schema, txn, &mut progress).is_err() {
+    let Ok(()) = execute_line(client, service, schema, txn, &mut progress) else {
         return None;
-    }
+    };
     lines_have_made(client, service, txn, &progress);
     let replies = progress.into_replies();
     let Some(refusal) = last_refusal(&replies) else {

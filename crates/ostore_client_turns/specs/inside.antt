@@ -1,3 +1,4 @@
 pub mod Stores
 pub mod Seats
 pub mod Turning
+pub mod AtServer

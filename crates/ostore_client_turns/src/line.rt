@@ -1,10 +1,12 @@
 //! Lines of a client's transactions at the server.
 
-ghost use Rattle.std.specs.Prelude.{◌≡◌, ◌<◌, ◌+◌, IfOk, IfErr, Some, None};
+ghost use Rattle.std.specs.Prelude.{◌≡◌, ◌<◌, ◌+◌, IfOk, Some};
 ghost use Rattle.ostore_base.specs.Limits.{most_clients};
-ghost use Rattle.ostore_page_service.specs.Servers.{told_of, Serves};
+ghost use Rattle.ostore_page_service.specs.Servers.{first_of, opened_of};
 ghost use Rattle.ostore_turns.specs.Places.{HasRoom};
-ghost use Rattle.ostore_client_turns.specs.inside.Turning.{Executes, MayExecute, TakesTurn, gave_of};
+ghost use Rattle.ostore_client_turns.specs.inside.AtServer.{ExecutesAt, MayExecuteAt, TakesTurnAt};
+ghost use Rattle.ostore_client_turns.specs.inside.Seats.{view_of};
+ghost use Rattle.ostore_client_turns.specs.inside.Turning.{gave_of};
 
 use crate::cause::cause_of;
 use crate::seat::Seat;
@@ -42,18 +44,13 @@ fn run_line_there<D: Disk, M: Mapper>(
     txn: &Txn,
     ordinal: u32,
 ) -> Result<Line, AttemptFault>
-    requires may { MayExecute (Serves service.old.server.now)
-        (told_of service.old.server.ghost_name D.faults service.old.seat.client.0
-        service.old.server.now)
-        schema.now txn.now ordinal seat.old.client seat.old.attempt }
-    ensures executes { Executes (Serves service.old.server.now) (Serves service.new.server.now)
-        (told_of service.old.server.ghost_name D.faults service.old.seat.client.0
-        service.old.server.now)
-        (told_of service.new.server.ghost_name D.faults service.new.seat.client.0
-        service.new.server.now)
-        txn.now ordinal seat.old.client seat.new.client seat.old.attempt seat.new.attempt result }
+    requires may { MayExecuteAt D.faults service.old.server.now service.old.seat.client.0 schema.now
+        txn.now ordinal (view_of seat.old) }
+    ensures executes { ExecutesAt D.faults service.old.server.now service.new.server.now
+        service.old.seat.client.0 txn.now ordinal (view_of seat.old) (view_of seat.new) result }
     ensures name { service.new.server.ghost_name ≡ service.old.server.ghost_name }
-    ensures client { service.new.seat.client.0 ≡ service.old.seat.client.0 }
+    ensures first { first_of service.new.server.now ≡ first_of service.old.server.now }
+    ensures opened { opened_of service.new.server.now ≡ opened_of service.old.server.now }
     ensures place { seat.new.place ≡ seat.old.place }
 {
     let attempt = &mut seat.attempt;
@@ -72,13 +69,12 @@ fn run_line_at<D: Disk, M: Mapper>(
     ordinal: u32,
 ) -> Result<Line, AttemptFault>
     requires number { number.0 < most_clients }
-    requires may { MayExecute (Serves server.old)
-        (told_of server.ghost_name D.faults number.0 server.old)
-        schema.now txn.now ordinal seat.old.client seat.old.attempt }
-    ensures executes { Executes (Serves server.old) (Serves server.new)
-        (told_of server.entry.ghost_name D.faults number.0 server.old)
-        (told_of server.entry.ghost_name D.faults number.0 server.new)
-        txn.now ordinal seat.old.client seat.new.client seat.old.attempt seat.new.attempt result }
+    requires may { MayExecuteAt D.faults server.old number.0 schema.now txn.now ordinal
+        (view_of seat.old) }
+    ensures executes { ExecutesAt D.faults server.old server.new number.0 txn.now ordinal
+        (view_of seat.old) (view_of seat.new) result }
+    ensures first { first_of server.new ≡ first_of server.old }
+    ensures opened { opened_of server.new ≡ opened_of server.old }
     ensures place { seat.new.place ≡ seat.old.place }
 {
     let mut service = server.as_client(number);
@@ -86,8 +82,6 @@ fn run_line_at<D: Disk, M: Mapper>(
 }
 
 impl<'a, M: Mapper> Seat<'a, M> {
-    ghost use Rattle.ostore_client_turns.specs.inside.Seats.{view_of};
-
     /// Executes the next line of a client's transaction, and moves the client on. The script gives it so many tries.
     pub(crate) fn take_turn<D: Disk>(
         &mut self,
@@ -100,13 +94,12 @@ impl<'a, M: Mapper> Seat<'a, M> {
     ) -> Result<Gave, OutOfMemory>
         requires number { number.0 < most_clients }
         requires room { HasRoom self.old.place }
-        requires may { MayExecute (Serves server.old)
-            (told_of server.ghost_name D.faults number.0 server.old)
-            schema.now txn.now (self.old.place.txn + 1) self.old.client self.old.attempt }
-        ensures took { IfOk result (TakesTurn (Serves server.old) (Serves server.new)
-            (told_of server.entry.ghost_name D.faults number.0 server.old)
-            (told_of server.entry.ghost_name D.faults number.0 server.new)
-            tries txn.now (view_of self.old) (view_of self.new)) }
+        requires may { MayExecuteAt D.faults server.old number.0 schema.now txn.now
+            (self.old.place.txn + 1) (view_of self.old) }
+        ensures took { IfOk result (TakesTurnAt D.faults server.old server.new number.0 tries txn.now
+            (view_of self.old) (view_of self.new)) }
+        ensures first { first_of server.new ≡ first_of server.old }
+        ensures opened { opened_of server.new ≡ opened_of server.old }
     {
         let at = self.place;
         let line = run_line_at(alloc, self, server, number, schema, txn, at.txn + 1);

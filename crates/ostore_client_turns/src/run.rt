@@ -20,7 +20,7 @@ use ostore_graph_history::history_is_legal;
 use ostore_page_service::SeqServer;
 use ostore_run_report::{Results, Tail};
 use ostore_schema_layout::Schema;
-use ostore_turns::{results_are_records, take_turns};
+use ostore_turns::results_are_records;
 use std::alloc::Global;
 
 /// What a run gave: what became of the transactions, and the last lines of its report.
@@ -57,9 +57,10 @@ pub fn run_turns<'a, D: Disk, M: Mapper>(
         server,
         schema,
         job,
+        mapper,
         seats,
     };
-    let ran = take_turns(alloc, job, &mut store)?;
+    let ran = store.take_all_turns()?;
     results_are_records();
     history_is_legal();
     let tail = Tail {

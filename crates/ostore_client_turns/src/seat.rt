@@ -5,12 +5,12 @@ ghost use Rattle.std.specs.List.{AllByRecursion, sum_by};
 ghost use Rattle.ostore_base.specs.Limits.{most_clients};
 ghost use Rattle.ostore_schema_layout.specs.Lawful.{IsLawful};
 ghost use Rattle.ostore_page_service.specs.Holding.{IsEmpty};
-ghost use Rattle.ostore_page_service.specs.Servers.{side_of, told_of, Serves};
+ghost use Rattle.ostore_page_service.specs.Servers.{side_of, Serves};
 ghost use Rattle.ostore_graph_model.specs.declared.commands.Script.{Script};
 ghost use Rattle.ostore_job_text.specs.LawfulJob.{HasLawfulSettings};
-ghost use Rattle.ostore_client_core.specs.Clients.{AreFree, IsOwn};
+ghost use Rattle.ostore_client_core.specs.Clients.{AreFree};
+ghost use Rattle.ostore_client_turns.specs.inside.AtServer.{AreAllFreshAt, IsFreshAt, IsOwnAt};
 ghost use Rattle.ostore_client_turns.specs.inside.Seats.{fetches_in, seats_in, view_of};
-ghost use Rattle.ostore_client_turns.specs.inside.Stores.{AreFreshSeats, IsFreshSeat};
 
 use ostore_address_space::Mapper;
 use ostore_base::{ClientNo, Disk, OutOfMemory};
@@ -43,8 +43,7 @@ fn is_own_there<D: Disk, M: Mapper>(
     requires pages { client.now.pages ≡ [] }
     requires frames { AreFree client.now.frames.pages }
     requires empty { IsEmpty (side_of server.old number.0) }
-    ensures own { IsOwn (Serves server.old)
-        (told_of server.entry.ghost_name D.faults number.0 server.old) client.now }
+    ensures own { IsOwnAt D.faults server.old number.0 client.now }
     ensures same { server.new ≡ server.old }
 {
     let service = server.as_client(number);
@@ -67,9 +66,8 @@ impl<'a, M: Mapper> Seat<'a, M> {
         requires script { (script : Script) × Serves server.old script
             × (script.schema ≡ schema.now) }
         requires empty { IsEmpty (side_of server.old number.0) }
-        ensures fresh { IfOk result (λ seat. IsFreshSeat (Serves server.old)
-            (told_of server.entry.ghost_name D.faults number.0 server.old)
-            schema.now client.now (view_of seat)) }
+        ensures fresh { IfOk result (λ seat.
+            IsFreshAt D.faults server.old number.0 schema.now client.now (view_of seat)) }
         ensures same { server.new ≡ server.old }
     {
         let pages = Client::new(alloc, schema, mapper, number, client.cache, client.frames)?;
@@ -95,9 +93,9 @@ pub(crate) fn seats_of<'a, D: Disk, M: Mapper>(
     requires settings { AllByRecursion HasLawfulSettings job.now.clients }
     requires script { (script : Script) × Serves server.old script × (script.schema ≡ schema.now) }
     requires empty { (client : ℕ) → IsEmpty (side_of server.old client) }
-    ensures fresh { IfOk result (λ seats. AreFreshSeats (Serves server.old)
-        (λ client. told_of server.entry.ghost_name D.faults client server.old)
-        schema.now job.now.clients (seats_in seats.items)) }
+    ensures seats { IfOk result (λ seats. AreAllFreshAt D.faults server.old schema.now
+        job.now.clients (seats_in seats.items)) }
+    ensures long { IfOk result (λ seats. length seats.items ≡ length job.now.clients) }
     ensures same { server.new ≡ server.old }
 {
     let mut seats = Vec::new(alloc);

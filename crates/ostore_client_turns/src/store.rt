@@ -9,7 +9,7 @@ use ostore_graph_model::Txn;
 use ostore_job_text::Job;
 use ostore_page_service::SeqServer;
 use ostore_schema_layout::Schema;
-use ostore_turns::{Attempts, Gave, Place};
+use ostore_turns::{Attempts, Gave, Place, TurnsRun, take_turns};
 use std::alloc::Global;
 
 /// The clients of a job, each at its place, with the server of their pages.
@@ -19,24 +19,65 @@ pub(crate) struct Store<'s, 'a, D, M: Mapper> {
     pub(crate) server: &'s mut SeqServer<GraphKind, D>,
     pub(crate) schema: &'a Schema,
     pub(crate) job: &'a Job,
+    /// Chooses the frames of all clients.
+    pub(crate) mapper: &'a M,
     pub(crate) seats: Vec<Seat<'a, M>>,
 }
 
-impl<'s, 'a, D: Disk, M: Mapper> Attempts for Store<'s, 'a, D, M> {
-    ghost use Rattle.std.specs.Prelude.{ℕ};
-    ghost use Rattle.std.specs.List.{slice_get};
-    ghost use Rattle.ostore_page_service.specs.Servers.{first_of, journal_of, opened_of, told_of, Serves};
+impl<'s, 'a, D: Disk, M: Mapper> Store<'s, 'a, D, M> {
+    ghost use Rattle.std.specs.Prelude.{◌≡◌, true, length, IfOk};
+    ghost use Rattle.ostore_job_text.specs.RunnableJobs.{CanRun};
+    ghost use Rattle.ostore_page_service.specs.Servers.{first_of, opened_of};
+    ghost use Rattle.ostore_turns.specs.Bounds.{AreBounded};
+    ghost use Rattle.ostore_turns.specs.Runs.{IsFirst, IsRunBy};
     ghost use Rattle.ostore_client_turns.specs.Runs.{bounds_of, script_of};
-    ghost use Rattle.ostore_client_turns.specs.inside.Stores.{IsReady, StoreConstants, moment_in};
+    ghost use Rattle.ostore_client_turns.specs.inside.AtServer.{IsReadyAt, moment_at};
     ghost use Rattle.ostore_client_turns.specs.inside.Seats.{seats_in};
+
+    /// Executes all clients by turns, each from the first line of its script.
+    pub(crate) fn take_all_turns(&mut self) -> Result<TurnsRun, OutOfMemory>
+        requires job { CanRun self.old.job.now }
+        requires first { IsFirst (moment_at D.faults self.old.server.now self.old.server.ghost_name
+            (seats_in self.old.seats.items)) }
+        requires ready { IsReadyAt D.faults self.old.server.now self.old.schema.now self.old.job.now
+            (seats_in self.old.seats.items) }
+        requires long { length self.old.seats.items ≡ length self.old.job.now.clients }
+        ensures run { IfOk result (IsRunBy self.old.job.now
+            (moment_at D.faults self.old.server.now self.old.server.ghost_name
+            (seats_in self.old.seats.items))
+            (moment_at D.faults self.new.server.now self.old.server.ghost_name
+            (seats_in self.new.seats.items))) }
+        ensures bounded { IfOk result (λ run.
+            AreBounded (bounds_of (script_of self.old.schema.now self.old.job.now)
+            (opened_of self.old.server.now)) self.old.job.now.clients run.results) }
+        ensures sound { IfOk result (λ run. run.disk_failed ≡ true → ⊥) }
+        ensures ready { IfOk result (λ _run. IsReadyAt D.faults self.new.server.now
+            self.old.schema.now self.old.job.now (seats_in self.new.seats.items)) }
+        ensures long { IfOk result (λ _run.
+            length self.new.seats.items ≡ length self.old.job.now.clients) }
+        ensures same_reference { self.new.server.ghost_name ≡ self.old.server.ghost_name }
+        ensures first { first_of self.new.server.now ≡ first_of self.old.server.now }
+        ensures opened { opened_of self.new.server.now ≡ opened_of self.old.server.now }
+    {
+        let job = self.job;
+        take_turns(self.alloc, job, self)
+    }
+}
+
+impl<'s, 'a, D: Disk, M: Mapper> Attempts for Store<'s, 'a, D, M> {
+    ghost use Rattle.std.specs.Prelude.{◌≡◌, length};
+    ghost use Rattle.ostore_page_service.specs.Servers.{first_of, opened_of};
+    ghost use Rattle.ostore_client_turns.specs.Runs.{bounds_of, script_of};
+    ghost use Rattle.ostore_client_turns.specs.inside.AtServer.{IsReadyAt, moment_at};
+    ghost use Rattle.ostore_client_turns.specs.inside.Seats.{seats_in};
+    ghost use Rattle.ostore_client_turns.specs.inside.Stores.{StoreConstants};
 
     ghost Constants = { StoreConstants };
 
     ghost clients = { λ s. s.job.now.clients };
 
-    ghost moment = { λ s. moment_in
-        (λ client. told_of s.server.ghost_name D.faults client s.server.now)
-        (journal_of s.server.now).number (seats_in s.seats.items) };
+    ghost moment = { λ s. moment_at D.faults s.server.now s.server.ghost_name
+        (seats_in s.seats.items) };
 
     ghost constants = { λ s. record {
         behind = s.server.ghost_name;
@@ -48,9 +89,8 @@ impl<'s, 'a, D: Disk, M: Mapper> Attempts for Store<'s, 'a, D, M> {
 
     ghost bounds = { λ c. bounds_of (script_of c.schema c.job) c.opened };
 
-    ghost ready = { λ s. IsReady (Serves s.server.now)
-        (λ client. told_of s.server.ghost_name D.faults client s.server.now)
-        s.schema.now s.job.now (seats_in s.seats.items) };
+    ghost ready = { λ s. IsReadyAt D.faults s.server.now s.schema.now s.job.now
+        (seats_in s.seats.items) × (length s.seats.items ≡ length s.job.now.clients) };
 
     fn execute(&mut self, client: ClientNo, txn: &Txn, _at: Place) -> Result<Gave, OutOfMemory> {
         let number = usize::from(client.0);

@@ -1,12 +1,15 @@
 -- Why an attempt fails.
-use Rattle.std.specs.Prelude.{◌≡◌, ◌+◌, ◌<◌, ◌≤◌, ◌++◌, ◌∷◌, [], ℕ, true, List, length}
+use Rattle.std.specs.Prelude.{◌≡◌, ◌+◌, ◌<◌, ◌≤◌, ◌++◌, ◌∷◌, [], ℕ, true, false, List, length}
 use Rattle.std.specs.Option.{option_map}
 use Rattle.ostore_base.specs.Faults.{Rose}
 use Rattle.ostore_base.specs.declared.page.PageImage.{PageImage}
+use Rattle.ostore_schema_layout.specs.declared.schema.Schema.{Schema}
+use Rattle.ostore_segments.specs.declared.placement.NoSpace.{NoSpace as Lack}
 use Rattle.ostore_page_service.specs.declared.answers.Busy.{Busy as BusyPage}
 use Rattle.ostore_page_service.specs.declared.answers.CommitFault.{CommitFault}
 use Rattle.ostore_page_service.specs.History.{IsReached}
 use Rattle.ostore_page_service.specs.Told.{Told, SameService, NoBusy, DiskCounts, MayCome, faults_after}
+use Rattle.ostore_graph_model.specs.declared.values.Reply.{Reply}
 use Rattle.ostore_graph_model.specs.declared.commands.Txn.{Txn}
 use Rattle.ostore_graph_model.specs.declared.commands.Script.{Script}
 use Rattle.ostore_graph_model.specs.declared.history.Entry.{Entry}
@@ -15,7 +18,7 @@ use Rattle.ostore_client_core.specs.declared.fault.AttemptFault.TheVariants.{Bus
 use Rattle.ostore_client_core.specs.Kinds.{graph_meaning}
 use Rattle.ostore_client_core.specs.Clients.{ClientView}
 use Rattle.ostore_client_access.specs.Accesses.{MeetsAnother}
-use Rattle.ostore_object_ops.specs.Lines.{LacksGrowth}
+use Rattle.ostore_object_ops.specs.Lines.{LacksLine, LacksGrowth}
 use Rattle.ostore_transactions.specs.Attempts.{last_line}
 
 -- ---- the line at which a fault comes
@@ -47,6 +50,10 @@ pub record LacksPages (script : Script) (told : Told Entry) (txn : Txn) : Type 0
   pub reached : IsReached graph_meaning script told.first told.opened told.client told.mine.records number list
   pub lacks : LacksGrowth txn list
 
+-- a command of the transaction makes an object that finds no place on some list of pages
+abbrev pub FindsNoPlace : Schema → Txn → Lack → Type 0
+FindsNoPlace schema txn lack = (replies : List Reply) × (list : List PageImage) × LacksLine schema txn replies lack list
+
 -- the commit of an update failed
 pub record FailsToCommit (told now : Told Entry) (txn : Txn) (fault : CommitFault) : Type 0 where
   pub update : txn.update ≡ true
@@ -74,8 +81,10 @@ module _ (serves : Script → Type 0) (told now : Told Entry) (client : ClientVi
   abbrev pub IsCause : AttemptFault → Type 0
   IsCause (Busy busy) = WasRefused told now txn busy × NoFaults told now
   IsCause (NoSpace segment need) =
-      ((script : Script) → serves script → script.schema ≡ client.schema → LacksPages script told txn)
+      (txn.update ≡ true)
+      × ((script : Script) → serves script → script.schema ≡ client.schema → LacksPages script told txn)
       × NoBusy told now × NoFaults told now
+      × FindsNoPlace client.schema txn (record { segment = segment; need = need })
   IsCause (CacheFull used capacity) =
       (used ≡ capacity) × (capacity ≡ client.most) × (capacity < length told.opened) × NoBusy told now × NoFaults told now
   IsCause (SpaceFull frames) =

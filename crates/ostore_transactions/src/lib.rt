@@ -10,3 +10,6 @@ mod whole;
 pub use attempt::Attempt;
 pub use line::{Line, run_line};
 pub use whole::{Ended, run_attempt};
+
+#[cfg(test)]
+mod tests;

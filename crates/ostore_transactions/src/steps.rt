@@ -17,7 +17,7 @@ use crate::line::Line;
 use ostore_address_space::Mapper;
 use ostore_client_access::{execute_line, lines_have_made, made_fits, no_line_has_run};
 use ostore_client_core::{AttemptFault, Client, GraphKind};
-use ostore_graph_model::{Entry, Replies, Txn};
+use ostore_graph_model::{Entry, Txn};
 use ostore_object_ops::{Progress, Stop};
 use ostore_page_service::{PageClaims, PageService};
 use ostore_schema_layout::Schema;

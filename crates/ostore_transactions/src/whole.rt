@@ -56,13 +56,25 @@ pub fn run_attempt<M: Mapper, S: PageService<GraphKind>>(
 {
     let mut attempt = Attempt::new();
     for _line in 0..txn.commands.items().len() + 2 {
-        match run_line(alloc, &mut attempt, client, service, turn, schema, txn, ordinal) {
-            Ok(Line::Going) => {}
-            Ok(Line::Committed { number, replies }) => {
+        let line = match run_line(
+            alloc,
+            &mut attempt,
+            client,
+            service,
+            turn,
+            schema,
+            txn,
+            ordinal,
+        ) {
+            Ok(line) => line,
+            Err(fault) => return Err(fault),
+        };
+        match line {
+            Line::Going => {}
+            Line::Committed { number, replies } => {
                 return Ok(Ended::Committed { number, replies });
             }
-            Ok(Line::Aborted) => return Ok(Ended::Aborted),
-            Err(fault) => return Err(fault),
+            Line::Aborted => return Ok(Ended::Aborted),
         }
     }
     unreachable!()

@@ -1,5 +1,5 @@
 -- Where clients are while they run one after the other, and that none meets another then.
-use Rattle.std.proofs.Common.{◌≡◌, ◌≢◌, ◌+◌, ◌-◌, ◌<◌, ◌≤◌, ◌%◌, inl, inr, ℕ, zero, suc, Bool, true, false, cond, List, [], ◌∷◌, ◌++◌, length, drop, take, replicate, refl, sym, ap, subst, ◌∙◌, arith, Some}
+use Rattle.std.proofs.Common.{◌≡◌, ◌≢◌, ◌+◌, ◌-◌, ◌<◌, ◌≤◌, ◌%◌, inl, inr, ℕ, zero, suc, Bool, false, cond, List, [], ◌∷◌, length, drop, take, replicate, refl, sym, ap, subst, ◌∙◌, arith, Some}
 use Rattle.std.specs.List.{slice_get, sum_by, AllByRecursion}
 use Rattle.std.proofs.lemmas.Bool.{cases_eq, cases_lt}
 use Rattle.std.proofs.lemmas.List.{length-replicate}

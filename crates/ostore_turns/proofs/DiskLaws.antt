@@ -1,5 +1,5 @@
 -- A disk call that failed is told by exactly one result.
-use Rattle.std.proofs.Common.{◌≡◌, ◌≢◌, ◌+◌, ◌-◌, ◌<◌, ◌==◌, ℕ, zero, suc, Bool, true, false, cond, List, [], ◌∷◌, ◌++◌, length, replicate, append_assoc, refl, sym, ap, subst, ◌∙◌, arith, Option, Some, None}
+use Rattle.std.proofs.Common.{◌≡◌, ◌≢◌, ◌+◌, ◌-◌, ◌<◌, ◌==◌, ℕ, zero, suc, Bool, true, false, cond, List, [], ◌∷◌, ◌++◌, length, replicate, append_assoc, refl, ap, subst, ◌∙◌, arith, Option, Some, None}
 use Rattle.std.specs.Prelude.{filter}
 use Rattle.std.specs.List.{slice_get, cons_option, AllByRecursion}
 use Rattle.std.specs.Option.{option_and_then}
@@ -25,7 +25,7 @@ use Rattle.ostore_turns.specs.Bounds.{Bounds, IsResultWithin, AreBounded}
 use Rattle.ostore_turns.specs.Places.{Moment, is_retried}
 use Rattle.ostore_turns.specs.LawfulTurns.{StopsRun}
 use Rattle.ostore_turns.specs.Schedules.{Turn, Takes}
-use Rattle.ostore_turns.specs.TurnResults.{committed_as, result_by, result_at, ended_by, results_of, results_from}
+use Rattle.ostore_turns.specs.TurnResults.{committed_as, result_by, ended_by, results_of, results_from}
 use Rattle.ostore_turns.specs.Runs.{HasEnded, IsRunBy}
 use Rattle.ostore_turns.specs.RightResults.{is_disk_fault, disk_faults}
 use Rattle.ostore_turns.specs.inside.Steps.{and_maybe}

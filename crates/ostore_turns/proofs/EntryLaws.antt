@@ -1,6 +1,6 @@
 -- Entries that give clients their turns one after the other.
-use Rattle.std.proofs.Common.{◌≡◌, ◌+◌, ◌-◌, ◌<◌, ◌≤◌, ℕ, zero, suc, List, [], ◌∷◌, ◌++◌, length, drop, replicate, append-nil, append_assoc, refl, sym, ap, subst, ◌∙◌, arith, Some}
-use Rattle.std.specs.List.{slice_get, flat_map, AllByRecursion}
+use Rattle.std.proofs.Common.{◌≡◌, ◌+◌, ◌-◌, ◌≤◌, ℕ, List, [], ◌∷◌, ◌++◌, drop, replicate, append-nil, append_assoc, sym, ap, ◌∙◌, arith, Some}
+use Rattle.std.specs.List.{slice_get}
 use Rattle.std.proofs.lemmas.Grind.{flat_map-append}
 use Rattle.std.proofs.lemmas.List.{replicate-append-replicate}
 use Rattle.ostore_graph_model.proofs.Kept.Parts.{all_append}

@@ -8,3 +8,4 @@ pub mod EntryLaws
 pub mod AloneLaws
 pub mod SerialLaws
 pub mod DiskLaws
+pub mod StrictLaws

@@ -1,10 +1,9 @@
 -- At the end of a run by turns each client's records are what its results tell.
-use Rattle.std.proofs.Common.{◌≡◌, ◌≢◌, ◌+◌, ◌-◌, inl, inr, ℕ, zero, suc, Bool, true, false, cond, List, [], ◌∷◌, ◌++◌, length, replicate, append-nil, append_assoc, refl, sym, ap, subst, ◌∙◌, arith, Option, Some, None}
+use Rattle.std.proofs.Common.{◌≡◌, ◌≢◌, ◌+◌, ◌-◌, inl, inr, ℕ, zero, suc, Bool, true, false, cond, List, [], ◌∷◌, ◌++◌, length, replicate, append-nil, append_assoc, refl, sym, ap, ◌∙◌, arith, Option, Some, None}
 use Rattle.std.specs.List.{slice_get, cons_option}
 use Rattle.std.proofs.lemmas.Bool.{cases_eq, eq-eqb}
 use Rattle.std.proofs.lemmas.Bool.Decides.{eqb_tells}
 use Rattle.std.proofs.lemmas.Option.{none-some, same_Some}
-use Rattle.ostore_graph_model.specs.declared.commands.Txn.{Txn}
 use Rattle.ostore_graph_model.specs.declared.history.Committed.{Committed as Recorded}
 use Rattle.ostore_graph_model.specs.declared.values.Reply.{Reply}
 use Rattle.ostore_job_text.specs.declared.job.Job.{Job}
@@ -18,9 +17,9 @@ use Rattle.ostore_turns.specs.declared.attempts.Gave.TheVariants.{Going, Committ
 use Rattle.ostore_turns.specs.declared.place.Place.{Place}
 use Rattle.ostore_turns.specs.declared.running.TurnsRun.{TurnsRun}
 use Rattle.ostore_turns.specs.Places.{Moment, is_retried, moved, next_attempt, next_txn}
-use Rattle.ostore_turns.specs.LawfulTurns.{Turns, records_then, recorded_one}
+use Rattle.ostore_turns.specs.LawfulTurns.{records_then, recorded_one}
 use Rattle.ostore_turns.specs.Schedules.{Turn, Takes}
-use Rattle.ostore_turns.specs.TurnResults.{committed_as, result_by, result_at, ended_by, with_not_run, results_of, results_from}
+use Rattle.ostore_turns.specs.TurnResults.{committed_as, result_by, result_at, ended_by, results_of, results_from}
 use Rattle.ostore_turns.specs.Runs.{IsFirst, IsRunBy}
 use Rattle.ostore_turns.specs.RightResults.{AreRecords}
 use Rattle.ostore_turns.proofs.TakeLaws.{result_mine, result_other}

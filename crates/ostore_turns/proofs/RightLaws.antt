@@ -1,8 +1,7 @@
 -- Each result of a run by turns is right.
-use Rattle.std.proofs.Common.{◌≡◌, ◌≢◌, ◌+◌, ◌-◌, ◌<◌, ◌≤◌, inl, inr, ℕ, zero, suc, Bool, true, false, cond, List, [], ◌∷◌, ◌++◌, length, drop, replicate, refl, sym, ap, subst, ◌∙◌, arith, Option, Some, None}
+use Rattle.std.proofs.Common.{◌≡◌, ◌+◌, ◌-◌, ◌≤◌, inl, inr, ℕ, suc, Bool, true, false, cond, List, [], ◌∷◌, ◌++◌, length, drop, replicate, refl, sym, ap, subst, ◌∙◌, arith, Option, Some, None}
 use Rattle.std.specs.List.{slice_get, cons_option, AllByRecursion}
 use Rattle.std.proofs.lemmas.Bool.{cases_eq, ltb-false, false≢true}
-use Rattle.std.proofs.lemmas.Option.{none-some}
 use Rattle.ostore_graph_model.specs.declared.commands.Txn.{Txn}
 use Rattle.ostore_graph_model.specs.declared.values.Reply.{Reply}
 use Rattle.ostore_job_text.specs.declared.job.Job.{Job}
@@ -19,7 +18,7 @@ use Rattle.ostore_turns.specs.declared.running.TurnsRun.{TurnsRun}
 use Rattle.ostore_turns.specs.Places.{Moment, HasLine, is_retried, moved, next_attempt, next_txn}
 use Rattle.ostore_turns.specs.LawfulTurns.{IsCauseAt, MayGive, StopsRun}
 use Rattle.ostore_turns.specs.Schedules.{Turn, Takes}
-use Rattle.ostore_turns.specs.TurnResults.{committed_as, result_by, result_at, ended_by, with_not_run, results_of, results_from, AllByClient, AllByTxn}
+use Rattle.ostore_turns.specs.TurnResults.{committed_as, result_by, result_at, ended_by, with_not_run, results_from, AllByClient, AllByTxn}
 use Rattle.ostore_turns.specs.Runs.{HasEnded, IsFirst, IsRunBy}
 use Rattle.ostore_turns.specs.RightResults.{IsTried, MayGiveUp, IsRightResult, AreRight}
 use Rattle.ostore_turns.specs.inside.Steps.{IsFitPlace}

@@ -15,7 +15,6 @@ use Rattle.ostore_job_text.proofs.TurnAgain.{at_place}
 use Rattle.ostore_job_text.specs.declared.job.Job.{Job}
 use Rattle.ostore_job_text.specs.declared.job.JobClient.{JobClient}
 use Rattle.ostore_job_text.specs.RunnableJobs.{CanRun, IsWithinLimits}
-use Rattle.ostore_run_report.specs.declared.results.Cause.{Cause}
 use Rattle.ostore_run_report.specs.declared.results.TxnResult.{TxnResult}
 use Rattle.ostore_run_report.specs.declared.results.TxnResult.TheVariants.{GaveUp, NotRun}
 use Rattle.ostore_run_report.specs.Results.{committed_from, committed_by, committed_of, committed_as as recorded_as}
@@ -23,13 +22,13 @@ use Rattle.ostore_turns.specs.declared.attempts.Gave.{Gave}
 use Rattle.ostore_turns.specs.declared.attempts.Gave.TheVariants.{Going, Committed, Aborted, Failed}
 use Rattle.ostore_turns.specs.declared.place.Place.{Place}
 use Rattle.ostore_turns.specs.declared.running.TurnsRun.{TurnsRun}
-use Rattle.ostore_turns.specs.Places.{Moment, is_retried}
-use Rattle.ostore_turns.specs.LawfulTurns.{Turns, number_of, records_then, recorded_one}
+use Rattle.ostore_turns.specs.Places.{Moment}
+use Rattle.ostore_turns.specs.LawfulTurns.{Turns, number_of, records_then}
 use Rattle.ostore_turns.specs.Schedules.{Turn, Takes, scheduled}
-use Rattle.ostore_turns.specs.TurnResults.{committed_as, result_by, result_at, ended_by, results_of, results_from}
+use Rattle.ostore_turns.specs.TurnResults.{committed_as, result_by, ended_by, results_of, results_from}
 use Rattle.ostore_turns.specs.Alone.{AreOneAfterTheOther, WasAlone, HasRunAlone}
 use Rattle.ostore_turns.specs.Runs.{IsFirst, IsRunBy}
-use Rattle.ostore_turns.proofs.AloneLaws.{start, comes_before, AloneAt, first_alone, skipped, at_own, MeetsNone, gave_alone, not_retried, turn_alone}
+use Rattle.ostore_turns.proofs.AloneLaws.{comes_before, AloneAt, first_alone, skipped, at_own, MeetsNone, gave_alone, not_retried, turn_alone}
 use Rattle.ostore_turns.proofs.RecordedLaws.{recorded_here, recorded_other, records_of}
 
 -- ---- the records of clients, one after the other

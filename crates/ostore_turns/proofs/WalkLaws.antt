@@ -8,7 +8,6 @@ use Rattle.ostore_graph_model.specs.declared.commands.Txn.{Txn}
 use Rattle.ostore_job_text.specs.declared.job.JobClient.{JobClient}
 use Rattle.ostore_job_text.specs.RunnableJobs.{IsWithinLimits}
 use Rattle.ostore_turns.specs.declared.attempts.Gave.{Gave}
-use Rattle.ostore_turns.specs.declared.place.Place.{Place}
 use Rattle.ostore_turns.specs.Places.{Moment, HasLine, moved}
 use Rattle.ostore_turns.specs.LawfulTurns.{Turns}
 use Rattle.ostore_turns.specs.Runs.{IsFirst}

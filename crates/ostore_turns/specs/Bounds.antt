@@ -18,9 +18,9 @@ pub record Bounds : Type 1 where
   -- a disk call of a commit may fail
   pub fails : Type 0
 
--- No space is found only where pages are lacking. A cache is full only where all pages that the client's option allows are in
--- use, and the frames are all reserved only where they are as many as its option allows; either is below the pages that there
--- are. A disk call fails only where it may.
+-- No space is found only where pages are lacking. A cache is full only where all pages that the client's option allows
+-- are in use, and the frames are all reserved only where they are as many as its option allows; either is below the
+-- pages that there are. A disk call fails only where it may.
 abbrev pub IsBounded : Bounds → JobClient → Cause → Type 0
 IsBounded bounds client (Busy page seen found) = Unit {0}
 IsBounded bounds client (NoSpace segment need) = bounds.lacks

@@ -19,7 +19,8 @@ StopsRun other = ⊥
 
 -- ---- Busy
 
--- Another client has executed a command in an attempt that it has not ended, and one of the two transactions is an update.
+-- Another client has executed a command in an attempt that it has not ended, and one of the two transactions is an
+-- update.
 pub record IsMet (clients : List JobClient) (now : Moment) (number : ℕ) (txn : Txn) : Type 0 where
   pub other : ℕ
   pub another : other ≢ number
@@ -38,8 +39,8 @@ IsCommandLine txn at = (1 ≤ at.line) × (at.line ≤ length txn.commands)
 abbrev pub IsLastLine : Txn → Place → Type 0
 IsLastLine txn at = at.line + 1 ≡ lines_of txn
 
--- Why an attempt may end without a commit: at a command, where another client is met, or where something has run out; or by a
--- disk call of a commit that failed.
+-- Why an attempt may end without a commit: at a command, where another client is met, or where something has run out;
+-- or by a disk call of a commit that failed.
 abbrev pub IsCauseAt : List JobClient → Moment → ℕ → Txn → Cause → Type 0
 IsCauseAt clients now number txn (Busy page seen found) = IsCommandLine txn (now.places number) × IsMet clients now number txn
 IsCauseAt clients now number txn (NoSpace segment need) = IsCommandLine txn (now.places number)

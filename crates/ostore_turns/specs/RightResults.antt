@@ -30,8 +30,8 @@ MayGiveUp disk_failed client txn tries (SpaceFull frames) = Unit {0}
 MayGiveUp disk_failed client txn tries Disk = (disk_failed ≡ true) × (txn.update ≡ true)
 MayGiveUp disk_failed client txn tries (Stopped after) = ⊥
 
--- A transaction that its script aborts is aborted, an update is committed and a read has read, unless it was given up, or a disk
--- call failed before it ended.
+-- A transaction that its script aborts is aborted, an update is committed and a read has read, unless it was given up,
+-- or a disk call failed before it ended.
 abbrev pub IsRightResult : Bool → JobClient → Txn → TxnResult → Type 0
 IsRightResult disk_failed client txn (Commit number tries replies) = (txn.aborts ≡ false) × (txn.update ≡ true) × IsTried client tries
 IsRightResult disk_failed client txn (Read number tries replies) = (txn.aborts ≡ false) × (txn.update ≡ false) × IsTried client tries

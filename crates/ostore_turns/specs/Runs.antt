@@ -18,8 +18,8 @@ HasEnded job true turns after = (earlier : List Turn) × (last : Turn) × (turns
 HasEnded job false turns after =
     AllByRecursion (λ turn. StopsRun turn.gave → ⊥) turns × ((number : ℕ) → HasLine job.clients after number → ⊥)
 
--- From its first moment a run takes the turns of the job's schedule up to its end, each giving what it may, and the results
--- are those that the turns give.
+-- From its first moment a run takes the turns of the job's schedule up to its end, each giving what it may, and the
+-- results are those that the turns give.
 pub record IsRunBy (job : Job) (first after : Moment) (run : TurnsRun) : Type 0 where
   pub turns : List Turn
   pub end : ℕ

@@ -18,7 +18,8 @@ pub record Turn : Type 0 where
 abbrev pub entry_clients : List JobTurn → List ℕ
 entry_clients turns = flat_map (λ entry. replicate entry.count entry.client.0) turns
 
--- The client at a place of a schedule, which has no end: first those of the entries, and then all in job order, again and again.
+-- The client at a place of a schedule, which has no end: first those of the entries, and then all in job order, again
+-- and again.
 abbrev pub client_or : ℕ → Option ℕ → ℕ
 client_or other (Some client) = client
 client_or other None = other
@@ -34,8 +35,8 @@ pub record IsNextTurn (job : Job) (now : Moment) (from at : ℕ) (turn : Turn) :
   pub whose : turn.client ≡ scheduled job at
   pub place : turn.at ≡ now.places turn.client
 
--- From one moment and place of the schedule to others these turns are taken, each giving what it may. The run stops with
--- the first one at which a disk call fails.
+-- From one moment and place of the schedule to others these turns are taken, each giving what it may. The run stops
+-- with the first one at which a disk call fails.
 abbrev pub Takes : Job → Moment → ℕ → List Turn → Moment → ℕ → Type 0
 Takes job before from [] after to = (before ≡ after) × (from ≡ to)
 Takes job before from (turn ∷ turns) after to =

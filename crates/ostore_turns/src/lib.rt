@@ -13,3 +13,6 @@ pub use laws::{clients_run_alone, disk_faults_are_told, results_are_records, res
 pub use place::Place;
 pub use running::{TurnsRun, take_turns};
 pub use schedule::one_after_the_other;
+
+#[cfg(test)]
+mod tests;

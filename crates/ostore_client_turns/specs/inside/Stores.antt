@@ -67,11 +67,6 @@ pub record IsFreshSeat (serves : Script → Type 0) (told : Told Entry) (schema 
   pub seated : IsSeated serves told schema client seat
   pub first : seat.place ≡ first_place
 
-pub record AreFreshSeats (serves : Script → Type 0) (told : ℕ → Told Entry) (schema : Schema) (clients : List JobClient)
-    (seats : ℕ → Option SeatView) : Type 0 where
-  pub seated : AreSeated serves told schema clients seats
-  pub first : (number : ℕ) → place_of (seats number) ≡ first_place
-
 -- what one server tells as the services of all its clients
 pub record AreTold (told : ℕ → Told Entry) (opened : List PageImage) (commits : ℕ) : Type 0 where
   pub client : (number : ℕ) → (told number).client ≡ number
@@ -101,7 +96,6 @@ pub record IsReady (serves : Script → Type 0) (told : ℕ → Told Entry) (sch
 abbrev pub recorded : (ℕ → Told Entry) → ℕ → List Committed
 recorded told client = if nat_lt client most_clients then map committed_entry (told client).mine.records else []
 
--- where each client is, and what it has committed
 -- where each client is, and what it has committed
 abbrev pub moment_in : (ℕ → Told Entry) → ℕ → (ℕ → Option SeatView) → Moment
 moment_in told number seats = moment_of (λ client. place_of (seats client)) (recorded told) number

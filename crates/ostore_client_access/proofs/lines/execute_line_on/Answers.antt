@@ -1,5 +1,5 @@
-use Rattle.ostore_client_access.proofs.LineLaws.{lines_stand, line_ok, line_adds, line_lacks}
-use Rattle.ostore_client_access.proofs.MadeLaws.{kind_passed, kind_stopped, client_kept, own_line, space_lacks, may_change}
+use Rattle.ostore_client_access.proofs.LineLaws.{lines_stand, line_ok, line_adds, line_lacks, line_place, line_updates}
+use Rattle.ostore_client_access.proofs.MadeLaws.{kind_passed, kind_stopped, client_kept, own_line, space_lacks, space_map, may_change}
 use Rattle.ostore_client_access.proofs.lines.execute_line_on.Goals as goal
 
 pub run_line-requires-clause-stands : goal.run_line-requires-clause-stands
@@ -30,3 +30,9 @@ returns-clause-more g c = line_adds (g.S.PageClaims.serves c.args.access.now.ser
 
 pub returns-clause-space : goal.returns-clause-space
 returns-clause-space g c = space_lacks _ (g.S.PageClaims.serves c.args.access.now.service.now) (g.S.PageClaims.serves c.run_line.new.pages.service.now) (g.S.PageClaims.tells c.args.access.now.service.now) (g.S.PageClaims.tells c.run_line.new.pages.service.now) c.args.access.now.client.now c.run_line.new.pages.client.now c.args.txn.now c.run_line.result (λ no. line_lacks (g.S.PageClaims.serves c.args.access.now.service.now) (g.S.PageClaims.serves c.run_line.new.pages.service.now) (g.S.PageClaims.tells c.args.access.now.service.now) (g.S.PageClaims.tells c.run_line.new.pages.service.now) c.args.access.now.client.now c.run_line.new.pages.client.now c.args.schema.now c.args.txn.now c.args.progress.now c.run_line.new.progress c.requires.schema c.requires.lines no) c.run_line.ensures.space
+
+pub returns-clause-place : goal.returns-clause-place
+returns-clause-place g c = space_map _ _ c.run_line.result (line_place (g.S.PageClaims.serves c.args.access.now.service.now) (g.S.PageClaims.serves c.run_line.new.pages.service.now) (g.S.PageClaims.tells c.args.access.now.service.now) (g.S.PageClaims.tells c.run_line.new.pages.service.now) c.args.access.now.client.now c.run_line.new.pages.client.now c.args.schema.now c.args.txn.now c.args.progress.now c.run_line.new.progress c.requires.schema c.requires.lines (client_kept c.args.access.now.updates c.run_line.new.pages.updates (g.S.PageClaims.serves c.args.access.now.service.now) (g.S.PageClaims.serves c.run_line.new.pages.service.now) (g.S.PageClaims.tells c.args.access.now.service.now) (g.S.PageClaims.tells c.run_line.new.pages.service.now) c.args.access.now.client.now c.run_line.new.pages.client.now c.run_line.result c.run_line.ensures.passes c.run_line.ensures.stops).schema) c.run_line.ensures.space
+
+pub returns-clause-updates : goal.returns-clause-updates
+returns-clause-updates g c = space_map _ _ c.run_line.result (line_updates (g.S.PageClaims.serves c.args.access.now.service.now) (g.S.PageClaims.serves c.run_line.new.pages.service.now) (g.S.PageClaims.tells c.args.access.now.service.now) (g.S.PageClaims.tells c.run_line.new.pages.service.now) c.args.access.now.client.now c.run_line.new.pages.client.now c.args.schema.now c.args.txn.now c.args.progress.now c.run_line.new.progress c.requires.schema c.requires.lines) c.run_line.ensures.space

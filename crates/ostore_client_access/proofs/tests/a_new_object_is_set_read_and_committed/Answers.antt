@@ -10,7 +10,7 @@ use Rattle.ostore_client_access.proofs.tests.a_new_object_is_set_read_and_commit
 pub fresh_is_own-requires-clause-script : goal.fresh_is_own-requires-clause-script
 fresh_is_own-requires-clause-script g c =
     let s = c.as_client-service in
-    fresh_script (λ t is. subst (λ x. Serves x t) (sym s.ensures.same) (c.in_ok-server.ensures.served t is)) (ap (λ (v : ClientView). v.schema) c.in_ok-client.ensures)
+    fresh_script (λ t is. subst (λ x. Serves x t) (sym s.ensures.same) (c.in_ok-server.ensures.served t is)) (ap (λ (v : ClientView). v.schema) c.in_ok-client.ensures.made)
 
 pub fresh_is_own-requires-clause-nothing : goal.fresh_is_own-requires-clause-nothing
 fresh_is_own-requires-clause-nothing g c =
@@ -25,4 +25,4 @@ read_and_commit-done-requires-clause-first g c =
 pub read_and_commit-done-requires-clause-script : goal.read_and_commit-done-requires-clause-script
 read_and_commit-done-requires-clause-script g c =
     let s = c.as_client-service in
-    fresh_first _ (λ t is. subst (λ x. Serves x t) (sym s.ensures.same) (c.in_ok-server.ensures.served t is)) (ap (λ (v : ClientView). v.schema) c.in_ok-client.ensures)
+    fresh_first _ (λ t is. subst (λ x. Serves x t) (sym s.ensures.same) (c.in_ok-server.ensures.served t is)) (ap (λ (v : ClientView). v.schema) c.in_ok-client.ensures.made)

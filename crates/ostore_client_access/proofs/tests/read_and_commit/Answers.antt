@@ -10,7 +10,7 @@ made_fits-requires-clause-entry g c =
     record {
       script = c.requires.script.0;
       served = passed.served c.requires.script.0 (b.served c.requires.script.0 c.requires.script.1);
-      schema = c.requires.script.2 ∙ sym (passed.schema ∙ ap (λ (v : ClientView). v.schema) b.client);
+      schema = c.requires.script.2 ∙ sym (passed.client.schema ∙ ap (λ (v : ClientView). v.schema) b.client);
       names = record { named = c.requires.script.3; kept = c.requires.kept; kind = sym c.requires.update };
       mine = sym (passed.same.service.client ∙ b.same.service.client ∙ c.requires.mine);
       rises = rises_first _ 1 (passed.same.records ∙ b.same.records ∙ c.requires.first);

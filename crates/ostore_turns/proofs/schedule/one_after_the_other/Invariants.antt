@@ -1,4 +1,4 @@
-use Rattle.std.proofs.Common.{◌≡◌, ◌++◌, ◌+◌, drop}
+use Rattle.std.proofs.Common.{◌≡◌, ◌++◌, drop}
 use Rattle.std.specs.List.{AllByRecursion}
 use Rattle.ostore_job_text.specs.LawfulJob.{IsLawfulTurn}
 use Rattle.ostore_turns.specs.Alone.{line_by_line}

@@ -1,4 +1,4 @@
-use Rattle.std.proofs.Common.{◌≡◌, ◌++◌, ◌≤◌, ◌-◌, ◌∙◌, List, replicate, subst, sym, ap, arith}
+use Rattle.std.proofs.Common.{◌++◌, ◌-◌, ◌∙◌, List, replicate, subst, sym, ap, arith}
 use Rattle.ostore_job_text.specs.declared.job.JobTurn.{JobTurn}
 use Rattle.ostore_turns.specs.Schedules.{entry_clients}
 use Rattle.ostore_turns.specs.inside.Entries.{KeepsLawful}

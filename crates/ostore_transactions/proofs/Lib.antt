@@ -1,0 +1,5 @@
+pub mod FailLaws
+pub mod LineLaws
+pub mod CommitLaws
+pub mod OtherLaws
+pub mod WholeLaws
