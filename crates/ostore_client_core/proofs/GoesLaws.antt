@@ -45,6 +45,9 @@ same_client_of more = record { schema = more.schema; most = more.most; client = 
 pub same_client_is : {old new : ClientView} → new ≡ old → SameClient old new
 same_client_is is = record { schema = ap (λ (v : ClientView). v.schema) is; most = ap (λ (v : ClientView). v.most) is; client = ap (λ (v : ClientView). v.frames.client) is; frames = ap (λ (v : ClientView). length v.frames.pages) is }
 
+pub client_then : {a b c : ClientView} → SameClient a b → SameClient b c → SameClient a c
+client_then one two = record { schema = two.schema ∙ one.schema; most = two.most ∙ one.most; client = two.client ∙ one.client; frames = two.frames ∙ one.frames }
+
 pub same_stored : (old new : ClientView) (page : ℕ) (image : PageImage) → Extends old new → IsResidentPage old.frames.pages old.schema page image.bytes → stored_image new page image ≡ stored_image old page image
 same_stored old new page image more is =
     ap (λ (s : Schema). record { bytes = stored_form new.frames.pages s page image.bytes }) more.schema

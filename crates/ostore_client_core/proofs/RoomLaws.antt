@@ -1,12 +1,12 @@
 -- A cache or frames that are full, and one more page: together they are pages of the database, and no two of them the same.
-use Rattle.std.proofs.Common.{◌≡◌, ◌≢◌, ◌⊎◌, ℕ, zero, suc, ◌+◌, ◌-◌, ◌<◌, ◌≤◌, Bool, true, false, cond, eqb, nat_eq, List, [], ◌∷◌, length, map, get_or, set, Option, Some, None, refl, sym, ap, subst, ◌∙◌, arith, inl, inr}
+use Rattle.std.proofs.Common.{◌≡◌, ◌≢◌, ◌⊎◌, ℕ, zero, suc, ◌-◌, ◌<◌, Bool, true, false, cond, eqb, nat_eq, List, [], ◌∷◌, length, map, get_or, set, Option, Some, None, refl, sym, ap, subst, ◌∙◌, arith, inl, inr}
 use Rattle.std.specs.Prelude.{IsSome, is_some, nat_lt}
 use Rattle.std.specs.List.{AllByRecursion, Contains, IsDistinct, list_any}
 use Rattle.std.specs.Map.{lookup, keys_of}
 use Rattle.std.specs.Cmp.{nat_eq_equiv}
 use Rattle.std.proofs.lemmas.Bool.{cases_eq, cases_lt, eq-eqb, ne_eqb, eqb-true, lt-ltb, le-ltb, false≢true}
 use Rattle.std.proofs.lemmas.Grind.{get_or_default_zero}
-use Rattle.std.proofs.lemmas.List.{length-map, length-set, get_or-map, get_or-set_same, get_or-set_other}
+use Rattle.std.proofs.lemmas.List.{length-map, get_or-map, get_or-set_same, get_or-set_other}
 use Rattle.std.proofs.lemmas.List.Elements.{Contains-get_or}
 use Rattle.std.proofs.lemmas.Map.Entries.{lookup-filter-values, option_filter}
 use Rattle.std.proofs.lemmas.Map.Keys.{IsDistinct-from_apart, apart_from_distinct}
@@ -16,7 +16,7 @@ use Rattle.std.proofs.lemmas.Map.Views.{Contains-from_any, IsSome-lookup_from_Co
 use Rattle.std.proofs.lemmas.Option.{same_Some}
 use Rattle.ostore_base.specs.declared.numbers.PageNo.{PageNo}
 use Rattle.ostore_address_space.specs.declared.space.Frame.{Frame}
-use Rattle.ostore_address_space.specs.Frames.{Frames, page_in, frame_of, free_frames, pages_with, reserve, ArePaired}
+use Rattle.ostore_address_space.specs.Frames.{Frames, frame_of, free_frames, pages_with, reserve, ArePaired}
 use Rattle.ostore_address_space.proofs.FrameLaws.{free_at, frame_there, not_held}
 use Rattle.ostore_relocation.specs.Reserving.{Reserving, reserving, reserve_all}
 use Rattle.ostore_relocation.proofs.ReserveLaws.{long_all}

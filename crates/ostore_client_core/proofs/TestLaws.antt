@@ -1,11 +1,15 @@
 -- A client of a fresh server, and transactions without commands.
 use Rattle.std.proofs.Common.{◌≡◌, ◌<◌, ◌≤◌, ◌+◌, ℕ, true, false, List, [], ◌∷◌, length, Option, Some, None, refl, sym, ap, subst, ◌∙◌, arith}
-use Rattle.std.specs.Prelude.{All}
+use Rattle.std.specs.Prelude.{All, Result, Ok, Err, OnOk}
 use Rattle.std.proofs.lemmas.Bool.{false≢true}
 use Rattle.std.proofs.lemmas.List.Elements.{All-nil}
 use Rattle.ostore_base.specs.declared.page.PageImage.{PageImage}
 use Rattle.ostore_schema_layout.specs.declared.schema.Schema.{Schema}
-use Rattle.ostore_page_service.specs.Told.{Side, Told}
+use Rattle.ostore_base.specs.Limits.{most_clients}
+use Rattle.ostore_page_service.specs.declared.kind.Kind as kind
+use Rattle.ostore_page_service.specs.declared.server.SeqServer.{SeqServer}
+use Rattle.ostore_page_service.specs.Servers.{side_of}
+use Rattle.ostore_page_service.specs.Told.{Side, Told, Undisturbed}
 use Rattle.ostore_page_service.specs.Holding.{IsEmpty}
 use Rattle.ostore_graph_model.specs.declared.commands.Script.{Script}
 use Rattle.ostore_graph_model.specs.declared.history.Entry.{Entry}
@@ -19,10 +23,12 @@ use Rattle.ostore_client_cache.specs.declared.entries.Hold.{Hold}
 use Rattle.ostore_client_cache.specs.declared.entries.Hold.TheVariants.{Retained, InUse, Owned}
 use Rattle.ostore_client_cache.specs.Entries.{is_in_use, is_owned, is_owner, is_used}
 use Rattle.ostore_client_core.specs.Kinds.{HasReplies, Follows}
-use Rattle.ostore_client_core.specs.Clients.{ClientView, entry_of, IsAbsent, IsIdle}
+use Rattle.ostore_client_core.specs.Clients.{ClientView, entry_of, IsAbsent, IsIdle, IsOwn}
+use Rattle.ostore_client_core.specs.Attempts.{Attempts}
 use Rattle.ostore_client_core.specs.Commits.{FitsClient}
 use Rattle.ostore_client_core.specs.inside.Nothing.{MakesNothing, NamesNothing, nothing}
 use Rattle.ostore_client_core.proofs.SeenLaws.{nothing_made}
+use Rattle.ostore_client_core.proofs.StayLaws.{makes_nothing_still, stays_own, stays_running}
 
 pub nothing_held : {side : Side Entry} → IsEmpty side → (page : ℕ) → IsAbsent side page
 nothing_held empty page = record { held = empty.held page; owned = empty.owned page; kept = empty.kept page }
@@ -48,6 +54,11 @@ fresh_named {P} {schema} {now} entry client ordinal served is = (
     kind = refl;
   },
 )
+
+-- what holds of an Ok
+pub ok_then : {T F : Type 0} {P Q : Type 0} (r : Result T F) → (P → Q) → OnOk r P → OnOk r Q
+ok_then (Ok x) f p = f p
+ok_then (Err e) f p = tt
 
 -- ---- what makes nothing fits
 
@@ -136,3 +147,26 @@ owned_fits serves told client script entry served schema mine first none updates
   where
     valid_in : (base : List PageImage) → IsValid client.schema base → IsValid script.schema base
     valid_in base valid = subst (λ (s : Schema). IsValid s base) (sym schema) valid
+
+-- ---- two clients of one server
+
+-- what the server holds for one client, before and after a call for another one
+pub undisturbed_at : {K D S : Type 0} {g : kind.Ghosts K Entry S} (before was now after : SeqServer K D Entry S g) → was ≡ before → after ≡ now → {n m k : ℕ} (c d : ℕ) → n ≡ c → m ≡ c → k ≡ d → c < most_clients → (c ≡ d → ⊥)
+    → ((e : ℕ) → e < most_clients → (e ≡ k → ⊥) → Undisturbed (side_of was e) (side_of now e)) → Undisturbed (side_of before n) (side_of after m)
+undisturbed_at before was now after first last {n = n} {m = m} c d n_is m_is k_is low apart others =
+    subst (λ (i : ℕ). Undisturbed (side_of before i) (side_of after m)) (sym n_is)
+    (subst (λ (i : ℕ). Undisturbed (side_of before c) (side_of after i)) (sym m_is)
+    (subst (λ s. Undisturbed (side_of s c) (side_of after c)) first
+    (subst (λ s. Undisturbed (side_of was c) (side_of s c)) (sym last) (others c low (λ e. apart (e ∙ k_is))))))
+
+pub own_there : {serves later : Script → Type 0} {told now : Told Entry} {client : ClientView} → IsOwn serves told client → now.client ≡ told.client → now.opened ≡ told.opened → Undisturbed told.mine now.mine → (script : Script) × later script × (script.schema ≡ client.schema)
+    → IsOwn later now client
+own_there {serves} {later} {told} {now} {client} own same opened mine script = stays_own serves later told now client (record { client = same; opened = opened; mine = mine }) script own
+
+pub running_there : {serves later : Script → Type 0} {told now : Told Entry} {client : ClientView} → Attempts serves told client → now.client ≡ told.client → now.opened ≡ told.opened → Undisturbed told.mine now.mine → (script : Script) × later script × (script.schema ≡ client.schema)
+    → Attempts later now client
+running_there {serves} {later} {told} {now} {client} runs same opened mine script = stays_running serves later told now client (record { client = same; opened = opened; mine = mine }) script runs
+
+pub nothing_there : {serves later : Script → Type 0} {told now : Told Entry} {client : ClientView} → Attempts serves told client → MakesNothing serves told client → now.client ≡ told.client → now.opened ≡ told.opened → Undisturbed told.mine now.mine
+    → (script : Script) × later script × (script.schema ≡ client.schema) → MakesNothing later now client
+nothing_there {serves} {later} {told} {now} {client} runs made same opened mine script = makes_nothing_still serves later told now client (record { client = same; opened = opened; mine = mine }) script runs made

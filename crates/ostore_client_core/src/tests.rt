@@ -58,6 +58,7 @@ fn visit<M: Mapper, S: PageService<GraphKind>>(
     ensures idle { IsIdle client.new }
     ensures same { SameRecords (S.tells service.old) (S.tells service.new) }
     ensures served { StillServes (S.serves service.old) (S.serves service.new) }
+    ensures same_client { SameClient client.old client.new }
 {
     if client.begin(service, false).is_err() {
         return Err(AttemptFault::OutOfMemory);
@@ -337,7 +338,10 @@ fn a_page_that_another_owns_is_busy_until_its_commit(rt: HostRuntime) -> Result<
         seen: 0x1_0001_0001,
         found: 0x1_0001_0001,
     };
-    assert_eq!(rt; visit(&mut reader, &mut readers, PageNo(10)), Err(AttemptFault::Busy(busy)));
+    assert_eq!(rt;
+        visit(&mut reader, &mut readers, PageNo(10)),
+        Err(AttemptFault::Busy(busy))
+    );
     let mut owners_again = server.as_client(ClientNo(0));
     let number = owner.finish(&mut owners_again, (), entry)?;
     assert_eq!(rt; number, 1);

@@ -187,11 +187,12 @@ impl<'a, M: Mapper> Client<'a, M> {
     }
 
     /// Brings a page into use, and answers its frame's first address. It owns none. CacheFull comes exactly where the
-    /// pages in use are as many as there may be, and one more is needed; then no claim was made. Busy comes where another
-    /// client owns the page. Busy and want of memory leave the client as it was. SpaceFull comes after the claim: a page
-    /// that the image needs has no frame, and none is free. The page was then fetched and released, and its copy dropped.
-    /// Neither of the two comes where there is room for all pages of the database. Where the client has as many pages as there may be and
-    /// hadn't this one, the retained page that was used least recently is dropped, directly after the claim.
+    /// pages in use are as many as there may be, and one more is needed; then no claim was made. Busy comes where
+    /// another client owns the page. Busy and want of memory leave the client as it was. SpaceFull comes after the
+    /// claim: a page that the image needs has no frame, and none is free. The page was then fetched and released, and
+    /// its copy dropped. Neither of the two comes where there is room for all pages of the database. Where the client
+    /// has as many pages as there may be and hadn't this one, the retained page that was used least recently is
+    /// dropped, directly after the claim.
     pub fn enter<S: PageService<GraphKind>>(
         &mut self,
         service: &mut S,

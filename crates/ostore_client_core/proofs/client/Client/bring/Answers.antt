@@ -1,4 +1,4 @@
-use Rattle.std.proofs.Common.{rules, ◌≡◌, ◌≤◌, ◌<◌, ℕ, length, refl, sym, subst, arith}
+use Rattle.std.proofs.Common.{rules, ◌≡◌, ◌≤◌, ◌<◌, length, refl, sym, subst, arith}
 use Rattle.ostore_client_cache.specs.Caches.{used_pages}
 use Rattle.ostore_client_core.specs.Clients.{ClientView}
 use Rattle.ostore_client_core.proofs.KeptLaws.{room_left}
