@@ -1,7 +1,6 @@
 -- The last line of a transaction that its script doesn't abort.
-use Rattle.std.proofs.Common.{◌≡◌, ℕ, ◌+◌, ◌<◌, ◌≤◌, List, Option, true, false, length, None, Some, refl, sym, ap, subst, ◌∙◌, arith}
+use Rattle.std.proofs.Common.{◌≡◌, ℕ, List, false, None, Some, refl, sym, ap, subst, ◌∙◌, arith}
 use Rattle.ostore_base.specs.declared.numbers.ClientNo.{ClientNo}
-use Rattle.ostore_page_service.specs.declared.answers.CommitFault.{CommitFault}
 use Rattle.ostore_page_service.specs.Told.{Told, SameRecords, StillServes, NoBusy, DiskCounts}
 use Rattle.ostore_graph_model.specs.declared.values.Reply.{Reply}
 use Rattle.ostore_graph_model.specs.declared.commands.Txn.{Txn}
@@ -17,7 +16,7 @@ use Rattle.ostore_client_core.specs.Commits.{Finishes, ServesStill, FailsToCommi
 use Rattle.ostore_client_core.proofs.RecordLaws.{service_then, calm_then}
 use Rattle.ostore_client_access.specs.Attempts.{HasMade, FitsNamed}
 use Rattle.ostore_transactions.specs.declared.attempt.Attempt.{Attempt}
-use Rattle.ostore_transactions.specs.Attempts.{last_line, HasTxn}
+use Rattle.ostore_transactions.specs.Attempts.{last_line}
 use Rattle.ostore_transactions.specs.Lines.{entry_by, HasFailed, IsCommitted}
 use Rattle.ostore_transactions.proofs.FailLaws.{same_history, no_faults}
 

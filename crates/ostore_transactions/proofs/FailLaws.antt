@@ -1,6 +1,5 @@
 -- A line that failed, and the attempt that was aborted then.
-use Rattle.std.proofs.Common.{◌≡◌, ℕ, ◌+◌, ◌<◌, ◌≤◌, ◌++◌, ◌∷◌, [], List, Bool, true, length, None, Some, refl, sym, ap, subst, ◌∙◌, arith}
-use Rattle.std.specs.Option.{option_map}
+use Rattle.std.proofs.Common.{◌≡◌, ℕ, List, true, None, refl, sym, subst, ◌∙◌}
 use Rattle.ostore_base.specs.Faults.{Rose}
 use Rattle.ostore_base.specs.declared.page.PageImage.{PageImage}
 use Rattle.ostore_schema_layout.specs.declared.schema.Schema.{Schema}
@@ -16,7 +15,7 @@ use Rattle.ostore_client_core.specs.declared.fault.AttemptFault.{AttemptFault}
 use Rattle.ostore_client_core.specs.declared.fault.AttemptFault.TheVariants.{Busy, NoSpace, CacheFull, SpaceFull, Commit, OutOfMemory}
 use Rattle.ostore_client_core.specs.Kinds.{graph_meaning}
 use Rattle.ostore_client_core.specs.Clients.{ClientView, IsIdle}
-use Rattle.ostore_client_core.specs.Attempts.{seen_list, IsBase, Attempts}
+use Rattle.ostore_client_core.specs.Attempts.{seen_list, Attempts}
 use Rattle.ostore_client_core.specs.Calls.{SameClient}
 use Rattle.ostore_client_core.proofs.RecordLaws.{records_then, calm_then}
 use Rattle.ostore_object_ops.specs.declared.stop.Stop.{Stop}
@@ -26,7 +25,7 @@ use Rattle.ostore_object_ops.specs.Stops.{Stopped, IfNoSpace}
 use Rattle.ostore_client_access.specs.Accesses.{Causes, Passes, Fails}
 use Rattle.ostore_client_access.specs.Attempts.{FindsNoPlace, LacksOnEach}
 use Rattle.ostore_transactions.specs.declared.attempt.Attempt.{Attempt}
-use Rattle.ostore_transactions.specs.Attempts.{last_line, IsOver}
+use Rattle.ostore_transactions.specs.Attempts.{IsOver}
 use Rattle.ostore_transactions.specs.Causes.{IsCommandLine, ComesAt, IsCause, LacksPages, FindsNoPlace as LacksPlace, NoFaults, SameHistory}
 use Rattle.ostore_transactions.specs.Lines.{HasFailed}
 use Rattle.ostore_transactions.specs.inside.Stopping.{fault_by}

@@ -3,3 +3,4 @@ pub mod LineLaws
 pub mod CommitLaws
 pub mod OtherLaws
 pub mod WholeLaws
+pub mod TestLaws

@@ -1,12 +1,12 @@
 -- The line of a command that was executed, and the last line.
-use Rattle.std.proofs.Common.{◌≡◌, ℕ, ◌+◌, ◌<◌, ◌≤◌, ◌∷◌, [], List, length, None, Some, refl, sym, ap, subst, ◌∙◌, arith}
+use Rattle.std.proofs.Common.{◌≡◌, ℕ, ◌+◌, ◌<◌, ◌≤◌, ◌∷◌, [], List, length, Some, refl, sym, ap, subst, ◌∙◌, arith}
 use Rattle.std.proofs.lemmas.List.{length-append}
 use Rattle.ostore_page_service.specs.Told.{Told}
 use Rattle.ostore_graph_model.specs.declared.values.Reply.{Reply}
 use Rattle.ostore_graph_model.specs.declared.commands.Txn.{Txn}
 use Rattle.ostore_graph_model.specs.declared.commands.Script.{Script}
 use Rattle.ostore_graph_model.specs.declared.history.Entry.{Entry}
-use Rattle.ostore_client_core.specs.Clients.{ClientView, IsIdle}
+use Rattle.ostore_client_core.specs.Clients.{ClientView}
 use Rattle.ostore_client_core.specs.Attempts.{seen_list}
 use Rattle.ostore_object_ops.specs.declared.progress.Progress.{Progress}
 use Rattle.ostore_object_ops.specs.Progresses.{replies_of}

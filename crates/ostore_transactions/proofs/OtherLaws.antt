@@ -5,8 +5,6 @@ use Rattle.std.specs.Prelude.{IsSome}
 use Rattle.ostore_base.specs.Limits.{most_pages}
 use Rattle.ostore_base.specs.declared.page.PageImage.{PageImage}
 use Rattle.ostore_schema_layout.specs.declared.schema.Schema.{Schema}
-use Rattle.ostore_address_space.specs.Frames.{page_in}
-use Rattle.ostore_base.specs.declared.numbers.PageNo.{PageNo}
 use Rattle.ostore_page_service.specs.Told.{Side, Told, Undisturbed}
 use Rattle.ostore_graph_model.specs.declared.commands.Txn.{Txn}
 use Rattle.ostore_graph_model.specs.declared.commands.Script.{Script}
@@ -15,7 +13,7 @@ use Rattle.ostore_client_cache.specs.declared.entries.CachedPage.{CachedPage}
 use Rattle.ostore_client_cache.specs.declared.entries.Hold.{Hold}
 use Rattle.ostore_client_cache.specs.declared.entries.Hold.TheVariants.{Retained, InUse, Owned}
 use Rattle.ostore_client_core.specs.Clients.{ClientView, entry_of, stored_image, AreKnown, IsTied, IsTiedBy, IsOwn}
-use Rattle.ostore_client_core.specs.Attempts.{IsBase, Attempts, MayBe}
+use Rattle.ostore_client_core.specs.Attempts.{IsBase}
 use Rattle.ostore_object_ops.specs.declared.progress.Progress.{Progress}
 use Rattle.ostore_transactions.specs.declared.attempt.Attempt.{Attempt}
 use Rattle.ostore_transactions.specs.Attempts.{IsAlong, IsWith, IsAt}

@@ -1,11 +1,11 @@
 -- The lines of an attempt, one after the other.
-use Rattle.std.proofs.Common.{◌≡◌, ◌≢◌, ℕ, ◌+◌, ◌<◌, ◌≤◌, ◌++◌, ◌∷◌, [], List, Bool, true, false, length, Option, None, Some, inl, inr, refl, sym, ap, subst, ◌∙◌, arith}
+use Rattle.std.proofs.Common.{◌≡◌, ◌≢◌, ℕ, ◌+◌, ◌<◌, ◌++◌, ◌∷◌, [], List, Bool, true, false, length, Option, None, Some, inl, inr, sym, ap, subst, ◌∙◌, arith}
 use Rattle.std.specs.Prelude.{IsSome, All}
 use Rattle.std.specs.Option.{option_map}
 use Rattle.ostore_base.specs.Faults.{Rose}
 use Rattle.ostore_base.specs.declared.page.PageImage.{PageImage}
 use Rattle.ostore_schema_layout.specs.declared.schema.Schema.{Schema}
-use Rattle.ostore_page_service.specs.Told.{Told, SameRecords, StillServes, NoBusy, Numbers, DiskCounts, MayCome, faults_after, OwnedByAnother, UsedByAnother}
+use Rattle.ostore_page_service.specs.Told.{Told, SameRecords, Numbers, DiskCounts, MayCome, faults_after, OwnedByAnother, UsedByAnother}
 use Rattle.ostore_graph_model.specs.declared.values.Reply.{Reply}
 use Rattle.ostore_graph_model.specs.declared.commands.Txn.{Txn}
 use Rattle.ostore_graph_model.specs.declared.commands.Script.{Script}
@@ -19,8 +19,8 @@ use Rattle.ostore_client_core.proofs.RecordLaws.{service_then, records_refl, rec
 use Rattle.ostore_client_access.specs.Accesses.{MeetsAnother}
 use Rattle.ostore_client_access.specs.inside.Passing.{client_refl, client_then}
 use Rattle.ostore_transactions.specs.declared.attempt.Attempt.{Attempt}
-use Rattle.ostore_transactions.specs.Attempts.{last_line, line_at, line_in, HasTxn, IsAt, IsWith}
-use Rattle.ostore_transactions.specs.Causes.{IsCause, LacksPages, FindsNoPlace, NoFaults, SameHistory}
+use Rattle.ostore_transactions.specs.Attempts.{line_at, line_in, HasTxn, IsAt, IsWith}
+use Rattle.ostore_transactions.specs.Causes.{IsCause, LacksPages, FindsNoPlace, NoFaults}
 use Rattle.ostore_transactions.specs.Lines.{entry_by, IsGoing, IsCommitted, IsAborted, HasFailed}
 use Rattle.ostore_transactions.specs.Ends.{HasCommitted, HasAborted, HasGivenUp}
 use Rattle.ostore_transactions.specs.inside.Going.{GoesOn, HasGone}

@@ -1,5 +1,5 @@
 -- Why an attempt fails.
-use Rattle.std.specs.Prelude.{◌≡◌, ◌+◌, ◌<◌, ◌≤◌, ◌++◌, ◌∷◌, [], ℕ, true, false, List, length}
+use Rattle.std.specs.Prelude.{◌≡◌, ◌<◌, ◌≤◌, ◌++◌, ◌∷◌, [], ℕ, true, false, List, length}
 use Rattle.std.specs.Option.{option_map}
 use Rattle.ostore_base.specs.Faults.{Rose}
 use Rattle.ostore_base.specs.declared.page.PageImage.{PageImage}

@@ -6,7 +6,7 @@ use Rattle.ostore_graph_model.specs.declared.commands.Txn.{Txn}
 use Rattle.ostore_graph_model.specs.declared.commands.Script.{Script}
 use Rattle.ostore_graph_model.specs.declared.history.Entry.{Entry}
 use Rattle.ostore_client_core.specs.declared.fault.AttemptFault.{AttemptFault}
-use Rattle.ostore_client_core.specs.Clients.{ClientView, IsIdle}
+use Rattle.ostore_client_core.specs.Clients.{ClientView}
 use Rattle.ostore_transactions.specs.declared.whole.Ended.{Ended}
 use Rattle.ostore_transactions.specs.declared.whole.Ended.TheVariants.{Committed, Aborted}
 use Rattle.ostore_transactions.specs.Causes.{SameHistory, NoFaults, IsCause}

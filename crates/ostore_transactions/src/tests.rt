@@ -103,6 +103,33 @@ fn seen_of(ended: Ended) -> Option<Seen> {
     })
 }
 
+/// Attempts the first transaction of client 0, and gives what is seen of it.
+fn commit_first<M: Mapper, S: PageService<GraphKind>>(
+    alloc: Global,
+    client: &mut Client<'_, M>,
+    service: &mut S,
+    turn: S::Turn,
+    schema: &Schema,
+    txn: &Txn,
+) -> Option<Seen>
+    requires own { IsOwn (S.serves service.old) (S.tells service.old) client.old }
+    requires idle { IsIdle client.old }
+    requires schema { client.old.schema ≡ schema.now }
+    requires lawful { IsLawful schema.now }
+    requires ints { IsOfInts schema.now }
+    requires built { AllByRecursion IsBuilt txn.now.commands }
+    requires writer { (S.tells service.old).may_write ≡ true }
+    requires mine { (S.tells service.old).client ≡ 0 }
+    requires none { (S.tells service.old).mine.records ≡ [] }
+    requires script { (script : Script) × S.serves service.old script
+        × (script.schema ≡ client.old.schema) × (txn_at script 0 1 ≡ Some txn.now) }
+{
+    match run_attempt(alloc, client, service, turn, schema, txn, 1) {
+        Ok(ended) => seen_of(ended),
+        Err(_) => None,
+    }
+}
+
 /// Attempts the two transactions of client 0, of which the first one aborts, and gives what is seen of the second one.
 fn abort_and_commit<M: Mapper, S: PageService<GraphKind>>(
     alloc: Global,
@@ -154,15 +181,19 @@ fn a_new_object_is_set_read_and_committed(rt: HostRuntime) -> Result<(), Fail> {
     if !is_of_ints(&schema) || !are_built(txn.commands.items()) {
         panic!(rt; "the commands don't run");
     }
-    let ended = match run_attempt(alloc, &mut client, &mut service, (), &schema, &txn, 1) {
-        Ok(ended) => ended,
-        Err(_) => panic!(rt; "the attempt failed"),
-    };
+    let done = commit_first(alloc, &mut client, &mut service, (), &schema, &txn);
     let name = Name {
         segment: 1,
         serial: 1,
     };
-    assert_eq!(rt; seen_of(ended), Some(Seen { name, value: 7, number: 1 }));
+    assert_eq!(rt;
+        done,
+        Some(Seen {
+            name,
+            value: 7,
+            number: 1
+        })
+    );
     Ok(())
 }
 
@@ -195,6 +226,13 @@ fn an_aborted_transaction_leaves_no_object(rt: HostRuntime) -> Result<(), Fail> 
         segment: 1,
         serial: 1,
     };
-    assert_eq!(rt; done, Some(Seen { name, value: 7, number: 1 }));
+    assert_eq!(rt;
+        done,
+        Some(Seen {
+            name,
+            value: 7,
+            number: 1
+        })
+    );
     Ok(())
 }

@@ -1,4 +1,4 @@
-use Rattle.std.proofs.Common.{◌+◌, ◌<◌, ◌≤◌, length, sym, subst, arith}
+use Rattle.std.proofs.Common.{◌+◌, length, sym, subst, arith}
 use Rattle.ostore_object_ops.specs.Progresses.{replies_of}
 use Rattle.ostore_transactions.specs.Lines.{HasFailed}
 use Rattle.ostore_transactions.specs.Causes.{IsCommandLine}

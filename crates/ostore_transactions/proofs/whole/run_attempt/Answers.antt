@@ -1,4 +1,4 @@
-use Rattle.std.proofs.Common.{ℕ, subst}
+use Rattle.std.proofs.Common.{subst}
 use Rattle.ostore_transactions.specs.Attempts.{line_at}
 use Rattle.ostore_transactions.specs.Lines.{IsLine}
 use Rattle.ostore_transactions.proofs.WholeLaws.{one_gone, whole_committed, whole_aborted, whole_failed}
