@@ -1,9 +1,7 @@
 pub mod StreamLaws
-pub mod PromiseLaws
+pub mod FreshLaws
 pub mod RunLaws
 pub mod ResultLaws
-pub mod PlainTables
-pub mod PlainLookup
-pub mod PlainRun
 pub mod ReportLaws
 pub mod OneReport
+pub mod PromiseLaws

@@ -1,5 +1,5 @@
 -- A right answer, printed, keeps the promise.
-use Rattle.std.proofs.Common.{◌≡◌, ℕ, ◌<◌, ◌≤◌, List, length, take, Option, Some, None, refl, sym, ap, subst, ◌∙◌, arith, inl, inr, eqb, false, eq-eqb}
+use Rattle.std.proofs.Common.{◌≡◌, ℕ, ◌<◌, ◌≤◌, List, length, take, Option, Some, None, refl, sym, ap, subst, ◌∙◌, arith, inl, inr, eqb, Bool, true, false, eq-eqb}
 use Rattle.std.specs.Prelude.{◌≢◌, IfSome}
 use Rattle.std.proofs.lemmas.Bool.{false≢true, cases_lt}
 use Rattle.std.proofs.lemmas.List.{take_all, length-take}
@@ -9,13 +9,17 @@ use Rattle.ostore_try_input.specs.declared.reading.fault.TryFault.TheVariants as
 use Rattle.ostore_try_input.specs.FaultLine.{refusal_line}
 use Rattle.ostore_try_input.specs.Spelling.{Says, IsRefused}
 use Rattle.ostore_try_input.specs.TryFaults.{IsRefusedFor, IsRefusedOrMemory}
-use Rattle.ostore_try_input.proofs.InputSaid.{refusal_says_nothing, one_refusal}
+use Rattle.ostore_try_input.specs.declared.input.TryInput.{TryInput}
+use Rattle.ostore_try_input.specs.Scripts.{script_of}
+use Rattle.ostore_try_input.proofs.InputSaid.{refusal_says_nothing, one_refusal, says_one}
 use Rattle.ostore_cli.specs.declared.answers.Answer.{Answer}
 use Rattle.ostore_cli.specs.declared.answers.Answer.TheVariants.{Report, WordsRefused, TextRefused, SourceFault, OutOfMemory}
 use Rattle.ostore_cli.specs.Streams.{longest_read, IsWholeRead}
-use Rattle.ostore_cli.specs.Promise.{End, Call, HasText, IsReadThrough, IsReportOf, IsReportFrom, IsRefusalOf, EndsAt, reported, words_refused, text_refused, source_failed, sink_failed, memory_refused, PrintsLine, IsRefusalStatus, AnswersRefusal, KeepsPromise}
+use Rattle.ostore_cli.specs.Promise.{End, Call, HasText, IsReadThrough, IsReportOf, IsReportFrom, IsRefusalOf, EndsAt, Prints, reported, gave_up, words_refused, text_refused, source_failed, sink_failed, memory_refused, PrintsLine, IsRefusalStatus, AnswersRefusal, KeepsPromise}
 use Rattle.ostore_cli.specs.Commands.{IsRow}
-use Rattle.ostore_cli.specs.inside.Answer.{IsAnswerTo, IsTextAnswer, IsFaultAnswer, IsLinePrint, IsPrintOf}
+use Rattle.ostore_cli.specs.FreshRuns.{HasRoom}
+use Rattle.ostore_cli.specs.inside.Answer.{IsAnswerTo, IsTextAnswer, IsFaultAnswer, IsLinePrint, IsPrintOf, status_of}
+use Rattle.ostore_cli.proofs.ResultLaws.{none_given_up}
 
 -- a text that isn't too long is all of what a source had
 all_of_it : (bytes all : List ℕ) → all ≡ take longest_read bytes → length all ≤ 4194304 → all ≡ bytes
@@ -23,8 +27,8 @@ all_of_it bytes all front short =
     front ∙ take_all longest_read bytes (omega (arith, length-take longest_read bytes, ap length front))
 
 -- a report of what was read is one of what the source had
-pub report_from : (source : End) (now : Option (List ℕ)) (all output : List ℕ) → IsWholeRead source.bytes now all → IsReportOf all output → IsReportFrom source output
-report_from source now all output read report =
+pub report_from : (source : End) (now : Option (List ℕ)) (all output : List ℕ) (given_up : Bool) → IsWholeRead source.bytes now all → IsReportOf all output given_up → IsReportFrom source output given_up
+report_from source now all output given_up read report =
     let had : (bytes : Option (List ℕ)) → IsWholeRead bytes now all → HasText bytes all =
     λ bytes. elim bytes as (λ o. IsWholeRead o now all → HasText o all) [
       | None ↦ λ h. tt
@@ -61,8 +65,8 @@ refusal_from source now all line fault read refused named =
     record { text = told.0; had = told.1; fault = told.2; refused = told.3; named = told.4 }
 
 -- a text with a report isn't refused
-not_refused : (source : End) (output : List ℕ) → IsReportFrom source output → IfSome source.bytes (λ text. IsRefused text → ⊥)
-not_refused source output from =
+not_refused : (source : End) (output : List ℕ) (given_up : Bool) → IsReportFrom source output given_up → IfSome source.bytes (λ text. IsRefused text → ⊥)
+not_refused source output given_up from =
     elim source.bytes as (λ o. HasText o from.text → IfSome o (λ text. IsRefused text → ⊥)) [
       | None ↦ λ had. tt
       | Some b ↦ λ had refused. refused from.report.input (subst (λ (t : List ℕ). Says t from.report.input) (sym had) from.report.says)
@@ -90,25 +94,50 @@ abbrev ByFault : Call → ℕ → Type 0
 ByFault call status =
     IfSome call.source.bytes (λ text. (fault : TryFault) → IsRefusedFor text fault → AnswersRefusal call status fault)
 
+-- what is said of a text whose job has room
+abbrev ByRoom : Call → ℕ → Type 0
+ByRoom call status =
+    IfSome call.source.bytes (λ text. (input : TryInput) → Says text input → HasRoom (script_of input) input.job.clients → status ≢ 1)
+
+-- a status that isn't 1
+other_by_room : (call : Call) (status n : ℕ) → status ≡ n → eqb n 1 ≡ false → ByRoom call status
+other_by_room call status n is apart = always call.source.bytes _ (λ text input says room one. differ status n 1 is one apart)
+
 -- what a promise is to a call whose words are a row, which ends at status n
 served : (call : Call) (status n : ℕ) → status ≡ n → eqb n 2 ≡ false → IsRow call.words → EndsAt call n → ByText call status → ByFault call status
-    → (status ≢ 6 → call.source_after.faults ≡ call.source.faults) → KeepsPromise call status
-served call status n is apart row ends by_text by_fault by_source = record {
+    → (status ≢ 6 → call.source_after.faults ≡ call.source.faults) → ByRoom call status → KeepsPromise call status
+served call status n is apart row ends by_text by_fault by_source by_room = record {
   ends = subst (EndsAt call) (sym is) ends;
   by_words = (λ two. differ status n 2 is two apart, λ no_row. absurd (no_row row));
   by_text = λ _. by_text;
   by_fault = λ _. by_fault;
   by_source = by_source;
+  by_room = by_room;
 }
 
 -- a report is of no text that is refused
-report_by_text : (call : Call) (status : ℕ) (output : List ℕ) → IsReportFrom call.source output → ByText call status
-report_by_text call status output from =
-    told_more call.source.bytes _ _ (λ text no refused. absurd (no refused)) (not_refused call.source output from)
+report_by_text : (call : Call) (status : ℕ) (output : List ℕ) (given_up : Bool) → IsReportFrom call.source output given_up → ByText call status
+report_by_text call status output given_up from =
+    told_more call.source.bytes _ _ (λ text no refused. absurd (no refused)) (not_refused call.source output given_up from)
 
-report_by_fault : (call : Call) (status : ℕ) (output : List ℕ) → IsReportFrom call.source output → ByFault call status
-report_by_fault call status output from =
-    told_more call.source.bytes _ _ (λ text no fault h. absurd (no (refusal_says_nothing text fault h))) (not_refused call.source output from)
+report_by_fault : (call : Call) (status : ℕ) (output : List ℕ) (given_up : Bool) → IsReportFrom call.source output given_up → ByFault call status
+report_by_fault call status output given_up from =
+    told_more call.source.bytes _ _ (λ text no fault h. absurd (no (refusal_says_nothing text fault h))) (not_refused call.source output given_up from)
+
+-- a report of a job that has room is of one of which no transaction was given up
+room_kept : (text output : List ℕ) (input : TryInput) → IsReportOf text output true → Says text input → HasRoom (script_of input) input.job.clients → ⊥
+room_kept text output input report says room =
+    let same : input ≡ report.input = says_one text input report.input says report.says in
+    let also : HasRoom (script_of report.input) report.input.job.clients = subst (λ (i : TryInput). HasRoom (script_of i) i.job.clients) same room in
+    let none = none_given_up (script_of report.input) report.input.job.clients report.results also report.ran.ends in
+    false≢true (sym none ∙ report.told)
+
+given_up_by_room : (call : Call) (status : ℕ) (output : List ℕ) → IsReportFrom call.source output true → ByRoom call status
+given_up_by_room call status output from =
+    elim call.source.bytes as (λ o. HasText o from.text → IfSome o (λ text. (input : TryInput) → Says text input → HasRoom (script_of input) input.job.clients → status ≢ 1)) [
+      | None ↦ λ had. tt
+      | Some b ↦ λ had input says room one. absurd (room_kept from.text output input from.report (subst (λ (t : List ℕ). Says t input) had says) room)
+    ] from.had
 
 -- a status that is that of a text which is refused
 status_by_text : (call : Call) (status : ℕ) → IsRefusalStatus status → ByText call status
@@ -146,35 +175,58 @@ refused call status line answers printed =
     (status_by_text call status (inl printed.0))
     (line_by_fault call status line printed.0 answers.2 printed.1)
     (λ _. answers.1.no_fault)
+    (other_by_room call status 3 printed.0 refl)
 
--- a right answer, printed, keeps the promise
-pub promise : (call : Call) (status : ℕ) (answer : Answer)
-    → IsAnswerTo call.words call.source call.source_after answer
-    → IsPrintOf answer call.sink call.sink_after status → KeepsPromise call status
-promise call status (Report output) answers (inl printed) =
-    served call status 0 printed.0 refl answers.0
+-- a report, printed whole: status 1 where a transaction was given up, else 0
+whole : (call : Call) (status : ℕ) (output : List ℕ) (given_up : Bool)
+    → IsRow call.words × IsReadThrough call.source call.source_after × IsReportFrom call.source output given_up
+    → status ≡ status_of given_up → Prints output call.sink call.sink_after → KeepsPromise call status
+whole call status output false answers is printed =
+    served call status 0 is refl answers.0
     (reported (record {
       row = answers.0;
       read = answers.1;
       output = output;
       report = answers.2;
-      printed = printed.1;
+      printed = printed;
     }))
-    (report_by_text call status output answers.2)
-    (report_by_fault call status output answers.2)
+    (report_by_text call status output false answers.2)
+    (report_by_fault call status output false answers.2)
     (λ _. answers.1.no_fault)
-promise call status (Report output) answers (inr printed) =
-    served call status 7 printed.0 refl answers.0
-    (sink_failed (record {
+    (other_by_room call status 0 is refl)
+whole call status output true answers is printed =
+    served call status 1 is refl answers.0
+    (gave_up (record {
       row = answers.0;
       read = answers.1;
       output = output;
       report = answers.2;
+      printed = printed;
+    }))
+    (report_by_text call status output true answers.2)
+    (report_by_fault call status output true answers.2)
+    (λ _. answers.1.no_fault)
+    (given_up_by_room call status output answers.2)
+
+-- a right answer, printed, keeps the promise
+pub promise : (call : Call) (status : ℕ) (answer : Answer)
+    → IsAnswerTo call.words call.source call.source_after answer
+    → IsPrintOf answer call.sink call.sink_after status → KeepsPromise call status
+promise call status (Report it) answers (inl printed) = whole call status it.text it.given_up answers printed.0 printed.1
+promise call status (Report it) answers (inr printed) =
+    served call status 7 printed.0 refl answers.0
+    (sink_failed (record {
+      row = answers.0;
+      read = answers.1;
+      output = it.text;
+      given_up = it.given_up;
+      report = answers.2;
       printed = printed.1;
     }))
-    (report_by_text call status output answers.2)
-    (report_by_fault call status output answers.2)
+    (report_by_text call status it.text it.given_up answers.2)
+    (report_by_fault call status it.text it.given_up answers.2)
     (λ _. answers.1.no_fault)
+    (other_by_room call status 7 printed.0 refl)
 promise call status WordsRefused answers printed = record {
   ends = subst (EndsAt call) (sym printed.0)
       (words_refused (record { no_row = answers.0; unread = answers.1; printed = printed.1 }));
@@ -182,6 +234,7 @@ promise call status WordsRefused answers printed = record {
   by_text = λ row. absurd (answers.0 row);
   by_fault = λ row. absurd (answers.0 row);
   by_source = λ _. answers.1.faults;
+  by_room = other_by_room call status 2 printed.0 refl;
 }
 promise call status (TextRefused line) answers printed = refused call status line answers printed
 promise call status SourceFault answers printed =
@@ -190,17 +243,20 @@ promise call status SourceFault answers printed =
     (status_by_text call status (inr (inl printed.0)))
     (status_by_fault call status 6 printed.0 refl (inr (inl printed.0)))
     (λ other. absurd (other printed.0))
+    (other_by_room call status 6 printed.0 refl)
 promise call status OutOfMemory answers printed =
     served call status 8 printed.0 refl answers.0
     (memory_refused (record { row = answers.0; no_fault = answers.1; printed = printed.1 }))
     (status_by_text call status (inr (inr printed.0)))
     (status_by_fault call status 8 printed.0 refl (inr (inr printed.0)))
     (λ _. answers.1)
+    (other_by_room call status 8 printed.0 refl)
 
 -- the answer of what was read is right by what the source had
 pub answer_from : (words : List (List ℕ)) (source source_after : End) (all : List ℕ) (answer : Answer) → IsRow words → IsWholeRead source.bytes source_after.bytes all → source_after.faults ≡ source.faults
     → IsTextAnswer all answer → IsAnswerTo words source source_after answer
-answer_from words source source_after all (Report output) row read same right = (row, record { text = all; read = read; no_fault = same }, report_from source source_after.bytes all output read right)
+answer_from words source source_after all (Report it) row read same right =
+    (row, record { text = all; read = read; no_fault = same }, report_from source source_after.bytes all it.text it.given_up read right)
 answer_from words source source_after all WordsRefused row read same right = absurd right
 answer_from words source source_after all (TextRefused line) row read same right =
     (row, record { text = all; read = read; no_fault = same }, refusal_from source source_after.bytes all line right.0 read right.1 right.2)
@@ -209,7 +265,7 @@ answer_from words source source_after all OutOfMemory row read same right = (row
 
 -- the answer to a fault of a text is that to the text
 pub fault_answered : (text : List ℕ) (fault : TryFault) (answer : Answer) → IsRefusedOrMemory text fault → IsFaultAnswer fault answer → IsTextAnswer text answer
-fault_answered text fault (Report output) refused right = absurd right
+fault_answered text fault (Report it) refused right = absurd right
 fault_answered text fault WordsRefused refused right = absurd right
 fault_answered text fault (TextRefused line) (inl memory) right = absurd (right.0 memory)
 fault_answered text fault (TextRefused line) (inr refused) right = (fault, refused, right.1)

@@ -1,19 +1,28 @@
--- What results say of transactions: which committed, that each stands, and that the rest can be told
--- from the transactions that committed.
-use Rattle.std.proofs.Common.{◌≡◌, ℕ, zero, suc, ◌+◌, Bool, true, false, cond, List, [], ◌∷◌, ◌++◌, map, Some, refl, sym, ap, subst, ◌∙◌, arith}
+-- What results say of transactions: which committed, that each stands where none was given up, that none is where there
+-- is room, and that the rest can be told from the transactions that committed.
+use Rattle.std.proofs.Common.{◌≡◌, ℕ, zero, suc, ◌+◌, ◌<◌, ◌≤◌, Bool, true, false, ◌||◌, cond, List, [], ◌∷◌, ◌++◌, map, Some, refl, sym, ap, subst, ◌∙◌, arith}
 use Rattle.std.specs.Prelude.{Any, option_and_then, slice_get}
-use Rattle.std.specs.List.{AllByRecursion}
+use Rattle.std.specs.List.{AllByRecursion, list_any}
+use Rattle.std.proofs.lemmas.Bool.{false≢true}
 use Rattle.std.proofs.lemmas.List.{get_or_append_left, map-append, length-append}
 use Rattle.std.proofs.lemmas.Option.{same_Some}
 use Rattle.ostore_base.specs.declared.numbers.ClientNo.{ClientNo}
 use Rattle.ostore_graph_model.specs.declared.commands.Txn.{Txn}
 use Rattle.ostore_graph_model.specs.declared.history.Committed.{Committed}
 use Rattle.ostore_graph_model.specs.LawsOfHistories.{named_by}
+use Rattle.ostore_graph_model.specs.Graph.{empty_graph}
+use Rattle.ostore_graph_model.specs.Growth.{script_growth}
 use Rattle.ostore_job_text.specs.declared.job.JobClient.{JobClient}
 use Rattle.ostore_run_report.specs.declared.results.TxnResult.{TxnResult}
 use Rattle.ostore_run_report.specs.declared.results.TxnResult.TheVariants.{Commit, Read, Abort, GaveUp, NotRun}
 use Rattle.ostore_run_report.specs.Results.{committed_as, committed_from, committed_by, EndedAtOnce}
-use Rattle.ostore_cli.specs.Promise.{was_aborted, AbortsAsScripted}
+use Rattle.ostore_run_report.specs.declared.results.Cause.{Cause}
+use Rattle.ostore_run_report.specs.declared.results.Cause.TheVariants.{Busy, NoSpace, CacheFull, SpaceFull, Disk, Stopped}
+use Rattle.ostore_graph_model.specs.declared.commands.Script.{Script}
+use Rattle.ostore_turns.specs.Alone.{IsMetByNone}
+use Rattle.ostore_turns.specs.Bounds.{Bounds, IsBounded}
+use Rattle.ostore_turns.specs.TurnResults.{AllByTxn}
+use Rattle.ostore_cli.specs.FreshRuns.{fresh_bounds, HasRoom, all_pages, free_pages, EndsAs, AllEnd, was_given_up, any_given_up}
 
 -- ---- lists
 
@@ -32,6 +41,102 @@ any_left P xs ys (k, y, lt, is, holds) = (k, y, omega (arith, lt, length-append 
 any_right : {X : Type 0} (P : X → Type 0) (xs ys : List X) → Any P ys → Any P (xs ++ ys)
 any_right P [] ys found = found
 any_right P (x ∷ xs) ys found = any_cons P x (xs ++ ys) (any_right P xs ys found)
+
+not_less : (a b : ℕ) → a ≤ b → b < a → ⊥
+not_less a b low high = absurd (omega (arith, low, high))
+
+-- ---- results of which none was given up
+
+-- the transaction was aborted
+abbrev pub was_aborted : TxnResult → Bool
+was_aborted (Commit number tries replies) = false
+was_aborted (Read number tries replies) = false
+was_aborted (Abort tries) = true
+was_aborted (GaveUp tries cause) = false
+was_aborted NotRun = false
+
+-- each transaction has one result, and Abort stands for exactly those that their script aborts
+abbrev pub AbortsAsScripted : List JobClient → List (List TxnResult) → Type 0
+AbortsAsScripted clients results = map (map was_aborted) results ≡ map (λ client. map (λ txn. txn.aborts) client.txns) clients
+
+or_false : (a b : Bool) → (a || b) ≡ false → (a ≡ false) × (b ≡ false)
+or_false true b e = absurd (false≢true (sym e))
+or_false false b e = (refl, e)
+
+-- a transaction that wasn't given up ended as its script says, at once
+pub record Ends (txn : Txn) (result : TxnResult) : Type 0 where
+  pub aborted : was_aborted result ≡ txn.aborts
+  pub at_once : EndedAtOnce result
+
+ended : (bounds : Bounds) (client : JobClient) (txn : Txn) (result : TxnResult) → EndsAs bounds client txn result → was_given_up result ≡ false → Ends txn result
+ended bounds client txn (Commit number tries replies) ends kept = record { aborted = sym ends.1; at_once = ends.0 }
+ended bounds client txn (Read number tries replies) ends kept = record { aborted = sym ends.1; at_once = ends.0 }
+ended bounds client txn (Abort tries) ends kept = record { aborted = sym ends.1; at_once = ends.0 }
+ended bounds client txn (GaveUp tries cause) ends kept = absurd (false≢true (sym kept))
+ended bounds client txn NotRun ends kept = absurd ends
+
+record ClientEnds (txns : List Txn) (results : List TxnResult) : Type 0 where
+  aborted : map was_aborted results ≡ map (λ txn. txn.aborts) txns
+  at_once : AllByRecursion EndedAtOnce results
+
+client_ends : (bounds : Bounds) (client : JobClient) (txns : List Txn) (results : List TxnResult) → AllByTxn (EndsAs bounds client) txns results → list_any was_given_up results ≡ false → ClientEnds txns results
+client_ends bounds client [] [] ends kept = record { aborted = refl; at_once = tt }
+client_ends bounds client [] (result ∷ results) ends kept = absurd ends
+client_ends bounds client (txn ∷ txns) [] ends kept = absurd ends
+client_ends bounds client (txn ∷ txns) (result ∷ results) ends kept =
+    let none = or_false (was_given_up result) (list_any was_given_up results) kept in
+    let now = ended bounds client txn result ends.0 none.0 in
+    let later = client_ends bounds client txns results ends.1 none.1 in
+    record { aborted = λ i. now.aborted i ∷ later.aborted i; at_once = (now.at_once, later.at_once) }
+
+pub record JobEnds (clients : List JobClient) (results : List (List TxnResult)) : Type 0 where
+  pub aborted : AbortsAsScripted clients results
+  pub at_once : AllByRecursion (AllByRecursion EndedAtOnce) results
+
+pub job_ends : (bounds : Bounds) (clients : List JobClient) (results : List (List TxnResult)) → AllEnd bounds clients results → any_given_up results ≡ false → JobEnds clients results
+job_ends bounds [] [] ends kept = record { aborted = refl; at_once = tt }
+job_ends bounds [] (mine ∷ others) ends kept = absurd ends
+job_ends bounds (client ∷ clients) [] ends kept = absurd ends
+job_ends bounds (client ∷ clients) (mine ∷ others) ends kept =
+    let none = or_false (list_any was_given_up mine) (any_given_up others) kept in
+    let now = client_ends bounds client client.txns mine ends.0 none.0 in
+    let later = job_ends bounds clients others ends.1 none.1 in
+    record { aborted = λ i. now.aborted i ∷ later.aborted i; at_once = (now.at_once, later.at_once) }
+
+-- ---- where there is room, none is given up
+
+module _ (script : Script) (growth : script_growth empty_graph script ≤ free_pages) where
+  no_cause : (client : JobClient) (cause : Cause) → all_pages ≤ client.cache → all_pages ≤ client.frames → IsMetByNone cause → IsBounded (fresh_bounds script) client cause → ⊥
+  no_cause client (Busy page seen found) cache frames alone within = alone
+  no_cause client (NoSpace segment need) cache frames alone within = not_less (script_growth empty_graph script) free_pages growth within
+  no_cause client (CacheFull used capacity) cache frames alone within = not_less all_pages client.cache cache within.2
+  no_cause client (SpaceFull n) cache frames alone within = not_less all_pages client.frames frames within.1
+  no_cause client Disk cache frames alone within = within
+  no_cause client (Stopped after) cache frames alone within = alone
+
+  kept_one : (client : JobClient) (txn : Txn) (result : TxnResult) → all_pages ≤ client.cache → all_pages ≤ client.frames → EndsAs (fresh_bounds script) client txn result → was_given_up result ≡ false
+  kept_one client txn (Commit number tries replies) cache frames ends = refl
+  kept_one client txn (Read number tries replies) cache frames ends = refl
+  kept_one client txn (Abort tries) cache frames ends = refl
+  kept_one client txn (GaveUp tries cause) cache frames ends = absurd (no_cause client cause cache frames ends.1 ends.2)
+  kept_one client txn NotRun cache frames ends = absurd ends
+
+  kept_all : (client : JobClient) (txns : List Txn) (results : List TxnResult) → all_pages ≤ client.cache → all_pages ≤ client.frames → AllByTxn (EndsAs (fresh_bounds script) client) txns results → list_any was_given_up results ≡ false
+  kept_all client [] [] cache frames ends = refl
+  kept_all client [] (result ∷ results) cache frames ends = absurd ends
+  kept_all client (txn ∷ txns) [] cache frames ends = absurd ends
+  kept_all client (txn ∷ txns) (result ∷ results) cache frames ends =
+      (λ i. kept_one client txn result cache frames ends.0 i || list_any was_given_up results) ∙ kept_all client txns results cache frames ends.1
+
+  kept_by : (clients : List JobClient) (results : List (List TxnResult)) → AllByRecursion (λ client. (all_pages ≤ client.cache) × (all_pages ≤ client.frames)) clients → AllEnd (fresh_bounds script) clients results → any_given_up results ≡ false
+  kept_by [] [] options ends = refl
+  kept_by [] (mine ∷ others) options ends = absurd ends
+  kept_by (client ∷ clients) [] options ends = absurd ends
+  kept_by (client ∷ clients) (mine ∷ others) options ends =
+      (λ i. kept_all client client.txns mine options.0.0 options.0.1 ends.0 i || any_given_up others) ∙ kept_by clients others options.1 ends.1
+
+pub none_given_up : (script : Script) (clients : List JobClient) (results : List (List TxnResult)) → HasRoom script clients → AllEnd (fresh_bounds script) clients results → any_given_up results ≡ false
+none_given_up script clients results room ends = kept_by script room.growth clients results room.options ends
 
 -- ---- each transaction that isn't aborted stands
 

@@ -1,8 +1,9 @@
 -- What the promise says of a report is all of it.
-use Rattle.std.specs.Prelude.{◌≡◌, ℕ, List}
+use Rattle.std.specs.Prelude.{◌≡◌, ℕ, false, List}
 use Rattle.ostore_cli.specs.Promise.{IsReportOf}
 
--- two reports of one text are equal, so that the printed bytes are a function of the text
+-- Two reports of one text, of whose job no transaction was given up, are equal, so that the bytes that are printed then
+-- are a function of the text.
 abbrev pub LawOfOneReport : Type 0
 LawOfOneReport =
-    (text output other : List ℕ) → IsReportOf text output → IsReportOf text other → output ≡ other
+    (text output other : List ℕ) → IsReportOf text output false → IsReportOf text other false → output ≡ other

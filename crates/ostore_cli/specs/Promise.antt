@@ -1,23 +1,21 @@
 -- What a top call promises: at each status what was the case, what was read and what was printed.
-use Rattle.std.specs.Prelude.{◌≡◌, ◌≢◌, ◌⊎◌, ◌↔◌, ℕ, Bool, true, false, List, length, map, codes, Option, Some, None, IfSome}
-use Rattle.std.specs.List.{AllByRecursion}
+use Rattle.std.specs.Prelude.{◌≡◌, ◌≢◌, ◌⊎◌, ◌↔◌, ℕ, Bool, true, false, List, length, codes, Option, Some, None, IfSome}
 use Rattle.ostore_base.specs.Faults.{Rose}
 use Rattle.ostore_base.specs.Streams.{appended}
-use Rattle.ostore_graph_model.specs.Graph.{Graph, empty_graph}
-use Rattle.ostore_graph_model.specs.History.{IsLegalHistory, AllCommitted, IsSerial, updates}
+use Rattle.ostore_graph_model.specs.Graph.{Graph}
+use Rattle.ostore_graph_model.specs.History.{AllCommitted, updates}
 use Rattle.ostore_try_input.specs.declared.input.TryInput.{TryInput}
 use Rattle.ostore_run_report.specs.declared.results.Tail.{Tail}
-use Rattle.ostore_job_text.specs.declared.job.JobClient.{JobClient}
 use Rattle.ostore_run_report.specs.declared.results.TxnResult.{TxnResult}
-use Rattle.ostore_run_report.specs.declared.results.TxnResult.TheVariants.{Commit, Read, Abort, GaveUp, NotRun}
 use Rattle.ostore_run_report.specs.Report.{report}
-use Rattle.ostore_run_report.specs.Results.{committed_of, EndedAtOnce}
+use Rattle.ostore_run_report.specs.Results.{committed_of}
 use Rattle.ostore_try_input.specs.Scripts.{script_of}
 use Rattle.ostore_try_input.specs.declared.reading.fault.TryFault.{TryFault}
 use Rattle.ostore_try_input.specs.FaultLine.{refusal_line}
 use Rattle.ostore_try_input.specs.Spelling.{Says, IsRefused}
 use Rattle.ostore_try_input.specs.TryFaults.{IsRefusedFor}
 use Rattle.ostore_cli.specs.Commands.{IsRow}
+use Rattle.ostore_cli.specs.FreshRuns.{HasRun, HasRoom, any_given_up}
 use Rattle.ostore_cli.specs.Streams.{IsWholeRead, AppendsFront}
 
 -- a source or a sink: the bytes that it has left or that it holds, where it tells, and its count of
@@ -57,32 +55,16 @@ pub record IsReadThrough (source source_after : End) : Type 0 where
 abbrev pub plain_tail : ℕ → Tail
 plain_tail commits = record { disk_fault_after = None; commits = commits; fetches = None }
 
--- the transaction was aborted by its script
-abbrev pub was_aborted : TxnResult → Bool
-was_aborted (Commit number tries replies) = false
-was_aborted (Read number tries replies) = false
-was_aborted (Abort tries) = true
-was_aborted (GaveUp tries cause) = false
-was_aborted NotRun = false
-
--- each transaction has one result, and Abort stands for exactly those that their script aborts
-abbrev pub AbortsAsScripted : List JobClient → List (List TxnResult) → Type 0
-AbortsAsScripted clients results =
-    map (map was_aborted) results ≡ map (λ client. map (λ txn. txn.aborts) client.txns) clients
-
--- The output is the report of what a text asks for. The transactions that its results say have
--- committed are a legal history from the empty graph at number 0. They ran one after the other, client
--- by client, and every transaction that its script doesn't abort stands among them.
-pub record IsReportOf (text output : List ℕ) : Type 0 where
+-- The output is the report of what a text asks for: of results of its job, which ran on a fresh database. Where none of its
+-- transactions was given up, every one that its script doesn't abort has committed.
+pub record IsReportOf (text output : List ℕ) (given_up : Bool) : Type 0 where
   pub input : TryInput
   pub says : Says text input
   pub results : List (List TxnResult)
   pub last : Graph
-  pub history : IsLegalHistory (script_of input) 0 empty_graph (committed_of results) last
-  pub everyone : AllCommitted (script_of input) (committed_of results)
-  pub serial : IsSerial (committed_of results)
-  pub aborted : AbortsAsScripted input.job.clients results
-  pub at_once : AllByRecursion (AllByRecursion EndedAtOnce) results
+  pub ran : HasRun (script_of input) input.job.clients results last
+  pub told : any_given_up results ≡ given_up
+  pub everyone : given_up ≡ false → AllCommitted (script_of input) (committed_of results)
   pub printed : output
       ≡ report input.job results (plain_tail (length (updates (committed_of results))))
 
@@ -92,10 +74,10 @@ HasText None text = Unit {0}
 HasText (Some bytes) text = bytes ≡ text
 
 -- the output is the report of a text that the source had
-pub record IsReportFrom (source : End) (output : List ℕ) : Type 0 where
+pub record IsReportFrom (source : End) (output : List ℕ) (given_up : Bool) : Type 0 where
   pub text : List ℕ
   pub had : HasText source.bytes text
-  pub report : IsReportOf text output
+  pub report : IsReportOf text output given_up
 
 -- the line says what a text that the source had is refused for
 pub record IsRefusalOf (source : End) (line : List ℕ) : Type 0 where
@@ -123,12 +105,20 @@ PrintsLine line sink sink_after = Prints line sink sink_after ⊎ PrintsFront li
 
 -- ---- the statuses
 
--- 0: the report was printed, and nothing failed
+-- 0: the report was printed, of a job of which no transaction was given up, and nothing failed
 pub record AtReport (call : Call) : Type 0 where
   pub row : IsRow call.words
   pub read : IsReadThrough call.source call.source_after
   pub output : List ℕ
-  pub report : IsReportFrom call.source output
+  pub report : IsReportFrom call.source output false
+  pub printed : Prints output call.sink call.sink_after
+
+-- 1: the report was printed, of a job of which a transaction was given up, and nothing failed
+pub record AtGivenUp (call : Call) : Type 0 where
+  pub row : IsRow call.words
+  pub read : IsReadThrough call.source call.source_after
+  pub output : List ℕ
+  pub report : IsReportFrom call.source output true
   pub printed : Prints output call.sink call.sink_after
 
 -- 2: the words are no row of the command table
@@ -156,7 +146,8 @@ pub record AtSinkFault (call : Call) : Type 0 where
   pub row : IsRow call.words
   pub read : IsReadThrough call.source call.source_after
   pub output : List ℕ
-  pub report : IsReportFrom call.source output
+  pub given_up : Bool
+  pub report : IsReportFrom call.source output given_up
   pub printed : PrintsFront output call.sink call.sink_after
 
 -- 8: memory was wanted and refused
@@ -168,6 +159,7 @@ pub record AtOutOfMemory (call : Call) : Type 0 where
 -- how a call ends, by its status
 pub data EndsAt (call : Call) : ℕ → Type 0 where
   reported : AtReport call → EndsAt call 0
+  gave_up : AtGivenUp call → EndsAt call 1
   words_refused : AtWordsRefused call → EndsAt call 2
   text_refused : AtTextRefused call → EndsAt call 3
   source_failed : AtSourceFault call → EndsAt call 6
@@ -185,7 +177,7 @@ pub record AnswersRefusal (call : Call) (status : ℕ) (fault : TryFault) : Type
 
 -- Everything that a top call promises: how it ends, and that three of the statuses come exactly
 -- where they should: 2 by the words, 3 by the text, where the source tells it, with the line of what
--- the text is refused for, and 6 by the source's count of faults.
+-- the text is refused for, and 6 by the source's count of faults. Where a text's job has room, 1 doesn't come.
 pub record KeepsPromise (call : Call) (status : ℕ) : Type 0 where
   pub ends : EndsAt call status
   pub by_words : (status ≡ 2) ↔ (IsRow call.words → ⊥)
@@ -194,3 +186,5 @@ pub record KeepsPromise (call : Call) (status : ℕ) : Type 0 where
   pub by_fault : IsRow call.words → IfSome call.source.bytes
       (λ text. (fault : TryFault) → IsRefusedFor text fault → AnswersRefusal call status fault)
   pub by_source : status ≢ 6 → call.source_after.faults ≡ call.source.faults
+  pub by_room : IfSome call.source.bytes (λ text. (input : TryInput) → Says text input
+      → HasRoom (script_of input) input.job.clients → status ≢ 1)

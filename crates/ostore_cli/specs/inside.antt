@@ -2,4 +2,4 @@
 pub mod HasRead
 pub mod InputCause
 pub mod Answer
-pub mod Outcomes
+pub mod Runs

@@ -5,7 +5,6 @@
 mod answers;
 mod laws;
 mod outcome;
-mod plain;
 mod streams;
 mod top;
 mod trying;

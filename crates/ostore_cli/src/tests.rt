@@ -2,12 +2,13 @@
 
 mod ample;
 mod clients;
+mod room;
 mod runs;
 mod slow;
 
 use super::*;
 use ostore_base::{ClientNo, PageNo};
-use runs::{FIRST, TWICE, expect_run, run_over, run_words};
+use runs::{FIRST, TWICE, expect_run, expect_under, run_over, run_words};
 use slow::{SlowSink, SlowSource};
 use std::test::Fail;
 
@@ -25,6 +26,12 @@ fn texts_and_their_reports(rt: HostRuntime) -> Result<(), Fail> {
         ),
         ("type Part\nid int\njob\n", "commits 0\n"),
         ("type Part\n", "commits 0\n"),
+        ("", "commits 0\n"),
+        ("job\n", "commits 0\n"),
+        (
+            "type Part\nid int\ntype Box\nwidth int\nheight int\njob\nclient a\nbegin\nnew $p Part 1\nnew $b Box 1\nset $b.height 3\nset $p.id 4\nget $b.width\nget $b.height\nget $p.id\nget $p.height\ncommit\n",
+            "a.1 commit 1\n  1.1\n  1.2\n  ok\n  ok\n  0\n  3\n  4\n  refused 2 NoMember\ncommits 1\n",
+        ),
         (
             TWICE,
             "a.1 commit 1\n  1.1\n  1.2\na.2 commit 2\n  1.3\n  2.1\n  refused 1 NoVariable\na.3 commit 3\ncommits 3\n",
@@ -38,10 +45,9 @@ fn texts_and_their_reports(rt: HostRuntime) -> Result<(), Fail> {
 #[test]
 fn texts_that_are_not_built(rt: HostRuntime) -> Result<(), Fail> {
     for text in [
-        "",
         "type Part\nid int\njob\nclient a\nbegin\nfind $p 1.1\ncommit\n",
         "type Part\nnext ref Part\njob\n",
-        "type Part\ntype Box\njob\n",
+        "type Part\ntype Box\nname text 8\njob\n",
     ] {
         expect_run(&rt, rt.alloc(), text, 3, "text refused\n")?;
     }
@@ -122,21 +128,22 @@ fn each_read_fails_in_turn(rt: HostRuntime) -> Result<(), Fail> {
 #[test]
 fn each_write_fails_in_turn(rt: HostRuntime) -> Result<(), Fail> {
     let alloc = rt.alloc();
-    let mut source = SlowSource::new(alloc, TWICE, 0)?;
+    let text = "job\nclient a\nbegin\ncommit\n";
+    let report = b"a.1 commit 1\ncommits 1\n".as_slice();
+    let mut source = SlowSource::new(alloc, text, 0)?;
     let mut whole = SlowSink::new(alloc, 0)?;
     assert_eq!(rt; run_over(alloc, &mut source, &mut whole)?, 0);
-    assert_eq!(rt; source.calls(), TWICE.len() as u64 + 1);
-    let report = run_words(alloc, &["try"], TWICE)?.sink;
-    assert!(rt; whole.bytes() == report.bytes());
-    let writes = report.bytes().len() as u64;
+    assert_eq!(rt; source.calls(), text.len() as u64 + 1);
+    assert!(rt; whole.bytes() == report);
+    let writes = report.len() as u64;
     assert_eq!(rt; whole.calls(), writes);
     for failing in 1..=writes {
-        let mut source = SlowSource::new(alloc, TWICE, 0)?;
+        let mut source = SlowSource::new(alloc, text, 0)?;
         let mut sink = SlowSink::new(alloc, failing)?;
         assert_eq!(rt; run_over(alloc, &mut source, &mut sink)?, 7);
         assert_eq!(rt; sink.bytes().len() as u64, failing - 1);
         assert_eq!(rt; sink.calls(), failing);
-        assert!(rt; report.bytes().starts_with(sink.bytes()));
+        assert!(rt; report.starts_with(sink.bytes()));
     }
     Ok(())
 }
@@ -158,6 +165,26 @@ fn the_longest_text(rt: HostRuntime) -> Result<(), Fail> {
         }
         // 512 whole pieces, and the read of one byte that tells the two lengths apart
         assert_eq!(rt; source.calls(), 513);
+    }
+    Ok(())
+}
+
+/// Three clients that change and read each other's objects, in several segments.
+const THREE: &str =
+    "type Part\nid int\nsize int\njob\nclient a\nbegin\nnew $p Part 1\nset $p.id 7\nnew $q Part 200\nset $q.size 8\ncommit\nread\nget $p.id\ncommit\nclient b\nbegin\nnew $p Part 1\nset $p.id 9\nget $p.size\nabort\nbegin\nnew $p Part 1\nset $p.size -1\nget $p.size\ncommit\nclient c\nread\ncommit\nbegin\nnew $r Part 200\nget $r.id\nset $r.id 5\nget $r.id\ncommit\n";
+
+const THREE_REPORTED: &str =
+    "a.1 commit 1\n  1.1\n  ok\n  200.1\n  ok\na.2 read 1\n  refused 1 NoVariable\nb.1 abort\nb.2 commit 2\n  1.2\n  ok\n  -1\nc.1 read 2\nc.2 commit 3\n  200.2\n  0\n  ok\n  5\ncommits 3\n";
+
+#[test]
+fn each_mapper_gives_the_same_bytes(rt: HostRuntime) -> Result<(), Fail> {
+    for (text, report) in [
+        (FIRST, "a.1 commit 1\n  1.1\n  ok\n  7\ncommits 1\n"),
+        (THREE, THREE_REPORTED),
+    ] {
+        expect_under(&rt, rt.alloc(), text, &Low, report)?;
+        expect_under(&rt, rt.alloc(), text, &High, report)?;
+        expect_under(&rt, rt.alloc(), text, &Mixed, report)?;
     }
     Ok(())
 }

@@ -53,7 +53,7 @@ pub fn ostore_turns<S: Source, K: Sink, D: Disk, M: Mapper>(
     source: &mut S,
     sink: &mut K,
     disk: D,
-    _mapper: &M,
+    mapper: &M,
 ) -> Outcome<D>
     ensures disk { result.disk ≡ disk }
     ensures promise { KeepsPromise (record {
@@ -64,7 +64,7 @@ pub fn ostore_turns<S: Source, K: Sink, D: Disk, M: Mapper>(
       sink_after = end_of K.written K.faults sink.new;
     }) result.status }
 {
-    let answer = answer_to(alloc, words, source);
+    let answer = answer_to(alloc, words, source, mapper);
     let status = print_answer(sink, answer);
     Outcome { status, disk }
 }

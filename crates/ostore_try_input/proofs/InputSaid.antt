@@ -1,6 +1,7 @@
 -- What is read of a text for `try` is what the text says, and what is refused says nothing.
 use Rattle.std.proofs.Common.{◌≡◌, ◌⊎◌, ℕ, ◌<◌, ◌≤◌, List, length, Result, Ok, Err, sym, ap, subst, ◌∙◌, arith, inl, inr}
 use Rattle.std.specs.Prelude.{IfOk, IfErr}
+use Rattle.std.specs.List.{AllByRecursion}
 use Rattle.ostore_schema_layout.specs.declared.schema.Schema.{Schema}
 use Rattle.ostore_schema_layout.specs.declared.fault.SchemaFault.{SchemaFault}
 use Rattle.ostore_schema_layout.specs.Spells.{Spells}
@@ -14,7 +15,12 @@ use Rattle.ostore_try_input.specs.declared.reading.fault.TryFault.{TryFault}
 use Rattle.ostore_try_input.specs.declared.reading.fault.TryFault.TheVariants as answers
 use Rattle.ostore_job_text.specs.Limits.{longest_text}
 use Rattle.ostore_job_text.specs.ParsedJob.{parsed_from}
-use Rattle.ostore_try_input.specs.Spelling.{AreBuiltTypes, AreBuiltClients, Says, IsRefused, schema_part, job_start}
+use Rattle.ostore_job_text.specs.JobSpelling.{SpellsJob}
+use Rattle.ostore_job_text.specs.LawfulJob.{HasLawfulSettings}
+use Rattle.ostore_job_text.specs.RunnableJobs.{CanRun}
+use Rattle.ostore_try_input.specs.Spelling.{AreBuiltClients, Says, IsRefused, schema_part, job_start, job_part}
+use Rattle.ostore_try_input.specs.Runnable.{CanBeRun}
+use Rattle.ostore_object_ops.specs.Suits.{IsOfInts}
 use Rattle.ostore_try_input.specs.TryFaults.{IsRefusedFor, IsRefusedOrMemory}
 use Rattle.ostore_try_input.specs.inside.ReadFault.{IsReadAs, IsReadOrMemory}
 use Rattle.ostore_job_text.proofs.JobAgain.{spelled_from}
@@ -24,7 +30,7 @@ use Rattle.ostore_job_text.proofs.FaultsTold.{fault_told, fault_read}
 -- ---- the parts of a text, as they are read
 
 pub said : (text part : List ℕ) (start : ℕ) (schema : Schema) (job : Job) → part ≡ schema_part text → start ≡ job_start text → length text ≤ longest_text → Spells part schema → parsed_from start text ≡ Ok job
-    → AreBuiltTypes schema.types → AreBuiltClients job.clients → Says text (record { schema = schema; job = job })
+    → IsOfInts schema → AreBuiltClients job.clients → Says text (record { schema = schema; job = job })
 said text part start schema job p s short spelled read types clients = record {
   short = short;
   schema = subst (λ (t : List ℕ). Spells t schema) p spelled;
@@ -50,6 +56,24 @@ refused_or text fault (inr read) = inr (refused_as text fault read)
 pub refused_so : (text : List ℕ) (result : Result TryInput TryFault) → IfErr result (λ fault. IsReadOrMemory text fault) → IfErr result (λ fault. IsRefusedOrMemory text fault)
 refused_so text (Ok input) read = tt
 refused_so text (Err fault) read = refused_or text fault read
+
+-- ---- what is read can be run
+
+can_be_run : (text : List ℕ) (input : TryInput) → ((t : List ℕ) (job : Job) → SpellsJob t job → CanRun job)
+    → ((t : List ℕ) (job : Job) → SpellsJob t job → AllByRecursion HasLawfulSettings job.clients) → Says text input → CanBeRun input
+can_be_run text input runs settings says = record {
+  lawful = says.schema.lawful;
+  ints = says.types;
+  job = runs (job_part text) input.job says.job.spelled;
+  settings = settings (job_part text) input.job says.job.spelled;
+  built = says.job.built;
+}
+
+pub runs_so : (text : List ℕ) (result : Result TryInput TryFault) → ((t : List ℕ) (job : Job) → SpellsJob t job → CanRun job)
+    → ((t : List ℕ) (job : Job) → SpellsJob t job → AllByRecursion HasLawfulSettings job.clients)
+    → IfOk result (λ input. Says text input) → IfOk result (λ input. CanBeRun input)
+runs_so text (Ok input) runs settings says = can_be_run text input runs settings says
+runs_so text (Err fault) runs settings says = tt
 
 -- ---- a text says one input
 
@@ -84,7 +108,7 @@ refusal_says_nothing text (answers.Job fault) (inr h) = λ input says. no_ok inp
 refusal_says_nothing text answers.Refused h = λ input says.
     let schema : input.schema ≡ h.schema = same_ok input.schema h.schema (sym (schema_read text input says) ∙ h.has.parsed_so) in
     let job : input.job ≡ h.job = same_ok input.job h.job (sym (job_read text input says) ∙ h.told) in
-    h.unbuilt (subst (λ (s : Schema). AreBuiltTypes s.types) schema says.types) (subst (λ (j : Job). AreBuiltClients j.clients) job says.job.built)
+    h.unbuilt (subst IsOfInts schema says.types) (subst (λ (j : Job). AreBuiltClients j.clients) job says.job.built)
 refusal_says_nothing text answers.OutOfMemory h = absurd h
 
 -- ---- a text is refused for one thing

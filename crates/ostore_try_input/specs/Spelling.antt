@@ -2,41 +2,20 @@
 use Rattle.std.specs.Prelude.{◌≡◌, ℕ, ◌≤◌, List, [], ◌∷◌, length, take, drop, codes, Option, Some, None}
 use Rattle.std.specs.List.{AllByRecursion}
 use Rattle.ostore_text_words.specs.Lines.{parting_of}
-use Rattle.ostore_schema_layout.specs.declared.schema.TypeDef.{TypeDef}
-use Rattle.ostore_schema_layout.specs.declared.schema.MemberDef.{MemberDef}
-use Rattle.ostore_schema_layout.specs.declared.schema.MemberKind.TheVariants as kinds
 use Rattle.ostore_schema_layout.specs.Spells.{Spells}
-use Rattle.ostore_graph_model.specs.declared.commands.Command.{Command}
-use Rattle.ostore_graph_model.specs.declared.commands.Command.TheVariants.{New, Get, Set}
-use Rattle.ostore_graph_model.specs.declared.commands.Operand.TheVariants as operands
 use Rattle.ostore_graph_model.specs.declared.commands.Txn.{Txn}
 use Rattle.ostore_job_text.specs.declared.job.Job.{Job}
 use Rattle.ostore_job_text.specs.declared.job.JobClient.{JobClient}
 use Rattle.ostore_try_input.specs.declared.input.TryInput.{TryInput}
 use Rattle.ostore_job_text.specs.Limits.{longest_text}
 use Rattle.ostore_job_text.specs.JobSpelling.{SpellsJob}
+use Rattle.ostore_object_ops.specs.Suits.{IsOfInts, IsBuilt}
 
 -- ---- what is built
 
-abbrev pub IsIntMember : MemberDef → Type 0
-IsIntMember member = member.kind ≡ kinds.Int
-
--- the schema is one type, with int members alone
-abbrev pub AreBuiltTypes : List TypeDef → Type 0
-AreBuiltTypes [] = ⊥
-AreBuiltTypes (only ∷ []) = AllByRecursion IsIntMember only.members
-AreBuiltTypes (first ∷ second ∷ others) = ⊥
-
--- the command is one of the three that run
-abbrev pub IsBuiltCommand : Command → Type 0
-IsBuiltCommand (New to ty segment) = Unit {0}
-IsBuiltCommand (Get object member) = Unit {0}
-IsBuiltCommand (Set object member (operands.Int value)) = Unit {0}
-IsBuiltCommand other = ⊥
-
 -- all commands of the transaction run, whether it updates or reads, and whether it commits or aborts
 abbrev pub IsBuiltTxn : Txn → Type 0
-IsBuiltTxn txn = AllByRecursion IsBuiltCommand txn.commands
+IsBuiltTxn txn = AllByRecursion IsBuilt txn.commands
 
 abbrev pub IsBuiltClient : JobClient → Type 0
 IsBuiltClient client = AllByRecursion IsBuiltTxn client.txns
@@ -71,7 +50,7 @@ pub record SaysJob (text : List ℕ) (job : Job) : Type 0 where
 pub record Says (text : List ℕ) (input : TryInput) : Type 0 where
   pub short : length text ≤ longest_text
   pub schema : Spells (schema_part text) input.schema
-  pub types : AreBuiltTypes input.schema.types
+  pub types : IsOfInts input.schema
   pub job : SaysJob (job_part text) input.job
 
 -- the text says no input that is built

@@ -7,12 +7,13 @@ use Rattle.ostore_schema_layout.specs.declared.fault.SchemaFault.{SchemaFault}
 use Rattle.ostore_schema_layout.specs.Parsed.{parsed}
 use Rattle.ostore_job_text.specs.declared.fault.JobFault.{JobFault}
 use Rattle.ostore_job_text.specs.declared.job.Job.{Job}
+use Rattle.ostore_object_ops.specs.Suits.{IsOfInts}
 use Rattle.ostore_try_input.specs.declared.reading.fault.TryFault.{TryFault}
 use Rattle.ostore_try_input.specs.declared.reading.fault.TryFault.TheVariants as answers
 use Rattle.ostore_job_text.specs.Limits.{longest_text}
 use Rattle.ostore_job_text.specs.FaultsOf.{IsTooLong, IsFaultFrom}
 use Rattle.ostore_job_text.specs.ParsedJob.{parsed_from}
-use Rattle.ostore_try_input.specs.Spelling.{AreBuiltTypes, AreBuiltClients, schema_part, job_start}
+use Rattle.ostore_try_input.specs.Spelling.{AreBuiltClients, schema_part, job_start}
 
 -- the text isn't too long, and this is the fault of its schema's part
 pub record HasSchemaFault (text : List ℕ) (fault : SchemaFault) : Type 0 where
@@ -36,7 +37,7 @@ pub record IsNotBuilt (text : List ℕ) : Type 0 where
   pub has : HasSchema text schema
   pub job : Job
   pub told : parsed_from (job_start text) text ≡ Ok job
-  pub unbuilt : AreBuiltTypes schema.types → AreBuiltClients job.clients → ⊥
+  pub unbuilt : IsOfInts schema → AreBuiltClients job.clients → ⊥
 
 -- the text is refused for this; want of memory is no fault of a text
 abbrev pub IsRefusedFor : List ℕ → TryFault → Type 0

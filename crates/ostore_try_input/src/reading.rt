@@ -5,4 +5,4 @@ mod fault;
 mod input;
 
 pub use fault::TryFault;
-pub use input::read_try_input;
+pub use input::{read_try_input, schema_part_of};

@@ -122,6 +122,37 @@ fn thirty_two_members(rt: HostRuntime) -> Result<(), Fail> {
 }
 
 #[test]
+fn two_types_of_thirty_two_members(rt: HostRuntime) -> Result<(), Fail> {
+    let alloc = rt.alloc();
+    let mut schema = String::new(alloc);
+    for name in ["Part", "Box"] {
+        write!(schema, "type {name}\n")?;
+        for i in 0..32u32 {
+            write!(schema, "m{i} int\n")?;
+        }
+    }
+    let mut job = Ample::with_schema(alloc, schema.as_str())?;
+    job.begin()?;
+    job.new_object(0, 1, 1)?;
+    write!(job.text, "new $v1 Box 1\n")?;
+    write!(job.report, "  1.2\n")?;
+    for variable in 0..2u32 {
+        for i in 0..32u32 {
+            let member = format!(in alloc; "m{i}")?;
+            job.set(variable, member.as_str(), u64::from(100 * variable + i))?;
+        }
+    }
+    for variable in 0..2u32 {
+        for i in 0..32u32 {
+            let member = format!(in alloc; "m{i}")?;
+            job.get(variable, member.as_str(), u64::from(100 * variable + i))?;
+        }
+    }
+    job.commit()?;
+    job.expect(&rt, alloc)
+}
+
+#[test]
 fn every_segment(rt: HostRuntime) -> Result<(), Fail> {
     let mut job = Ample::new(rt.alloc())?;
     for serial in 1..=2u32 {

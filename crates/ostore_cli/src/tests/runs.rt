@@ -1,6 +1,6 @@
 //! Running a text, and what is expected of it.
 
-use crate::{Low, Words, ostore_turns};
+use crate::{Low, Mapper, Words, ostore_turns};
 use ostore_base::{MemDisk, MemSink, MemSource, Sink, Source};
 use std::alloc::Global;
 use std::process::Abort;
@@ -46,6 +46,16 @@ pub(super) fn run_over<S: Source, K: Sink>(
 
 /// Runs words over a text.
 pub(super) fn run_words(alloc: Global, words: &[&str], text: &str) -> Result<MemRun, Fail> {
+    run_under(alloc, words, text, &Low)
+}
+
+/// Runs words over a text, where the mapper chooses the frames of pages.
+fn run_under<M: Mapper>(
+    alloc: Global,
+    words: &[&str],
+    text: &str,
+    mapper: &M,
+) -> Result<MemRun, Fail> {
     let mut line = Words::new(alloc);
     for word in words {
         line.push(word)?;
@@ -53,12 +63,26 @@ pub(super) fn run_words(alloc: Global, words: &[&str], text: &str) -> Result<Mem
     let mut source = source_of(alloc, text)?;
     let mut sink = MemSink::new(alloc, Vec::new(alloc));
     let disk = MemDisk::new(Vec::new(alloc), Vec::new(alloc));
-    let status = ostore_turns(alloc, &line, &mut source, &mut sink, disk, &Low).status;
+    let status = ostore_turns(alloc, &line, &mut source, &mut sink, disk, mapper).status;
     Ok(MemRun {
         status,
         source,
         sink,
     })
+}
+
+/// Runs `try` on a text, which must print this with status 0, where the mapper chooses the frames of pages.
+pub(super) fn expect_under<M: Mapper>(
+    rt: &impl Abort,
+    alloc: Global,
+    text: &str,
+    mapper: &M,
+    printed: &str,
+) -> Result<(), Fail> {
+    let ran = run_under(alloc, &["try"], text, mapper)?;
+    assert!(rt; ran.sink.bytes() == printed.as_bytes(), "{text}");
+    assert_eq!(rt; ran.status, 0, "{text}");
+    Ok(())
 }
 
 /// Runs `try` on a text, which must give this status and print this in one write, and must read

@@ -2,14 +2,18 @@
 
 ghost use Rattle.std.specs.Prelude.{◌≡◌, ◌⊎◌, IfOk, IfErr, Err};
 ghost use Rattle.ostore_try_input.specs.declared.input.TryInput.{TryInput};
+ghost use Rattle.ostore_try_input.specs.Runnable.{CanBeRun};
 ghost use Rattle.ostore_try_input.specs.Spelling.{Says, schema_part, job_start};
 ghost use Rattle.ostore_try_input.specs.TryFaults.{IsRefusedFor, IsRefusedOrMemory};
 ghost use Rattle.ostore_try_input.specs.inside.ReadFault.{IsReadOrMemory};
 
 use crate::input::TryInput;
-use crate::reading::built::{are_built_clients, are_built_types};
+use crate::reading::built::are_built_clients;
 use crate::reading::fault::TryFault;
-use ostore_job_text::{JobFault, LONGEST_TEXT, read_job_from};
+use ostore_job_text::{
+    JobFault, LONGEST_TEXT, read_job_from, spelled_can_run, spelled_settings_are_lawful,
+};
+use ostore_object_ops::is_of_ints;
 use ostore_schema_layout::{SchemaFault, parse_schema};
 use ostore_text_words::find_parting;
 use std::alloc::Global;
@@ -23,6 +27,13 @@ fn parts_of(text: &[u8]) -> (&[u8], usize)
         None => (text, text.len()),
         Some((start, next)) => (text.get(..start).unwrap_or(text), next),
     }
+}
+
+/// The part of a text for `try` that is the schema's: all before the first line `job`, or the whole text where there is none.
+pub fn schema_part_of(text: &[u8]) -> &[u8]
+    ensures { result.now ≡ schema_part text.now }
+{
+    parts_of(text).0
 }
 
 /// What the parts of the text are read as.
@@ -44,7 +55,7 @@ fn read_parts(alloc: Global, text: &[u8]) -> Result<TryInput, TryFault>
         Err(JobFault::OutOfMemory) => return Err(TryFault::OutOfMemory),
         Err(fault) => return Err(TryFault::Job(fault)),
     };
-    if !are_built_types(schema.types.items()) || !are_built_clients(job.clients.items()) {
+    if !is_of_ints(&schema) || !are_built_clients(job.clients.items()) {
         return Err(TryFault::Refused);
     }
     Ok(TryInput { schema, job })
@@ -56,6 +67,8 @@ fn read_parts(alloc: Global, text: &[u8]) -> Result<TryInput, TryFault>
 pub fn read_try_input(alloc: Global, text: &[u8]) -> Result<TryInput, TryFault>
     // What is read is what the text says.
     ensures read { IfOk result (λ input. Says text.now input) }
+    // It can be run.
+    ensures runs { IfOk result (λ input. CanBeRun input) }
     // The text says nothing else.
     ensures only { IfOk result (λ input. (other : TryInput) → Says text.now other → other ≡ input) }
     // What isn't read is refused for what is answered.
@@ -64,6 +77,8 @@ pub fn read_try_input(alloc: Global, text: &[u8]) -> Result<TryInput, TryFault>
     ensures exact { (fault : TryFault) → IsRefusedFor text.now fault
         → (result ≡ Err fault) ⊎ (result ≡ Err TryFault.OutOfMemory) }
 {
+    spelled_can_run();
+    spelled_settings_are_lawful();
     read_parts(alloc, text)
 }
 

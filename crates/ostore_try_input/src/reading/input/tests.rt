@@ -66,6 +66,9 @@ fn is_expected(command: &Command) -> bool {
 #[test]
 fn short_texts(rt: HostRuntime) -> Result<(), Fail> {
     for (text, wanted) in [
+        (b"".as_slice(), [0, 0, 0, 0, 0]),
+        (b"job\n".as_slice(), [0, 0, 0, 0, 0]),
+        (b"type A\ntype B\nb int\n".as_slice(), [2, 0, 0, 0, 0]),
         (b"type Part\n".as_slice(), [1, 0, 0, 0, 0]),
         (b"type Part\njob".as_slice(), [1, 0, 0, 0, 0]),
         (
@@ -81,9 +84,8 @@ fn short_texts(rt: HostRuntime) -> Result<(), Fail> {
 #[test]
 fn texts_that_are_not_built(rt: HostRuntime) {
     for text in [
-        b"".as_slice(),
-        b"type A\ntype B\n".as_slice(),
         b"type A\nb ref A\n".as_slice(),
+        b"type A\ntype B\nb text 3\n".as_slice(),
         b"type A\njob\nclient a\nbegin\nfind $p 1.1\ncommit\n".as_slice(),
         b"type A\njob\nclient a\nclient b\nread\nset $p.n null\nabort\n".as_slice(),
     ] {
@@ -194,6 +196,24 @@ fn schemas_at_fault(rt: HostRuntime) {
             matches!(read_try_input(rt.alloc(), text), Err(TryFault::Schema(found)) if found == fault),
             "{text:?}"
         );
+    }
+}
+
+#[test]
+fn the_part_of_the_schema(rt: HostRuntime) {
+    for (text, part) in [
+        (b"".as_slice(), b"".as_slice()),
+        (b"type A\n".as_slice(), b"type A\n".as_slice()),
+        (
+            b"type A\n job \nclient a\njob\n".as_slice(),
+            b"type A\n".as_slice(),
+        ),
+        (
+            b"type A\n#job\njob".as_slice(),
+            b"type A\n#job\n".as_slice(),
+        ),
+    ] {
+        assert!(rt; schema_part_of(text) == part, "{text:?}");
     }
 }
 
