@@ -1,5 +1,5 @@
 -- The lines of a transaction, executed in an attempt one by one.
-use Rattle.std.proofs.Common.{◌≡◌, ◌≤◌, ℕ, true, false, List, [], length, refl, sym, ap, subst, ◌∙◌}
+use Rattle.std.proofs.Common.{◌≡◌, ◌≤◌, ℕ, true, List, [], length, refl, sym, ap, subst, ◌∙◌}
 use Rattle.std.specs.Prelude.{None, Result, Ok, Err, OnOk}
 use Rattle.std.specs.Option.{option_map}
 use Rattle.ostore_base.specs.declared.page.PageImage.{PageImage}
@@ -11,7 +11,6 @@ use Rattle.ostore_graph_model.specs.declared.values.Reply.{Reply}
 use Rattle.ostore_graph_model.specs.declared.commands.Script.{Script}
 use Rattle.ostore_graph_model.specs.declared.commands.Txn.{Txn}
 use Rattle.ostore_graph_model.specs.declared.history.Entry.{Entry}
-use Rattle.ostore_graph_model.specs.Valid.{IsValid}
 use Rattle.ostore_client_core.specs.Clients.{ClientView, IsIdle}
 use Rattle.ostore_client_core.specs.Attempts.{home_of, seen_list, Attempts, MayBe}
 use Rattle.ostore_client_core.proofs.SeenLaws.{nothing_made}

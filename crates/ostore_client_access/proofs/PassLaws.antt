@@ -1,5 +1,5 @@
 -- Calls of a client that were Ok, or failed, one after the other.
-use Rattle.std.proofs.Common.{◌≡◌, ◌<◌, ℕ, ◌+◌, ◌*◌, ◌/◌, ◌%◌, Bool, true, false, nat_eq, List, None, inl, inr, refl, sym, ap, subst, ◌∙◌, arith}
+use Rattle.std.proofs.Common.{◌≡◌, ◌<◌, ℕ, ◌+◌, ◌/◌, ◌%◌, Bool, true, false, nat_eq, List, None, inl, inr, refl, sym, ap, subst, ◌∙◌, arith}
 use Rattle.std.proofs.lemmas.Bool.{and_parts, false≢true}
 use Rattle.std.specs.Prelude.{◌&&◌, Option, Some, IfSome, Result, Ok, Err, OnOk, IfErr, length}
 use Rattle.std.specs.Map.{set_value}

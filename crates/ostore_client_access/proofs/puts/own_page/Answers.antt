@@ -1,4 +1,4 @@
-use Rattle.std.proofs.Common.{true, false, sym, ◌/◌}
+use Rattle.std.proofs.Common.{true, sym, ◌/◌}
 use Rattle.std.proofs.lemmas.Bool.{false≢true}
 use Rattle.ostore_client_access.specs.inside.Passing.{passes_then, fails_then}
 use Rattle.ostore_client_access.proofs.PassLaws.{narrows_then, passes_any, fails_any, own_fails}
