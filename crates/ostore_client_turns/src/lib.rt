@@ -8,3 +8,6 @@ mod seat;
 mod store;
 
 pub use run::{Run, run_turns};
+
+#[cfg(test)]
+mod tests;

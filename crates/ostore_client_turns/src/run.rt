@@ -51,22 +51,22 @@ pub fn run_turns<'a, D: Disk, M: Mapper>(
     ensures { IfOk result (IsRunOf schema.now job.now (first_of server.old) (opened_of server.old)
         (pages_of server.new).images) }
 {
-    let seats = seats_of(alloc, schema, job, server, mapper)?;
+    let mut seats = seats_of(alloc, schema, job, server, mapper)?;
     let mut store = Store {
         alloc,
         server,
         schema,
         job,
         mapper,
-        seats,
+        seats: &mut seats,
     };
     let ran = store.take_all_turns()?;
     results_are_records();
     history_is_legal();
     let tail = Tail {
         disk_fault_after: None,
-        commits: store.server.number(),
-        fetches: Some(fetches_of(&store.seats)),
+        commits: server.number(),
+        fetches: Some(fetches_of(&seats)),
     };
     Ok(Run {
         results: ran.results,

@@ -100,9 +100,10 @@ recorded told client = if nat_lt client most_clients then map committed_entry (t
 abbrev pub moment_in : (ℕ → Told Entry) → ℕ → (ℕ → Option SeatView) → Moment
 moment_in told number seats = moment_of (λ client. place_of (seats client)) (recorded told) number
 
--- what no turn changes: the reference to the server, what it opened, and what is run on it
+-- what no turn changes: the references to the server and to the seats, what the server opened, and what is run on it
 pub record StoreConstants : Type 0 where
   pub behind : GName
+  pub sits : GName
   pub first : ℕ
   pub opened : List PageImage
   pub schema : Schema

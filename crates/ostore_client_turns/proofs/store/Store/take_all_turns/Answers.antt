@@ -8,5 +8,5 @@ pub returns-clause-ready : goal.returns-clause-ready
 returns-clause-ready g c =
     let old = c.args.self.now in
     let new = c.take_turns.new.store in
-    ready_alone g.D.Disk.faults new.server.now (seats_in new.seats.items) (length new.seats.items) c.take_turns.result old.schema.now new.schema.now old.job.now new.job.now
+    ready_alone g.D.Disk.faults new.server.now (seats_in new.seats.now.items) (length new.seats.now.items) c.take_turns.result old.schema.now new.schema.now old.job.now new.job.now
     (ap (λ (k : StoreConstants). k.schema) c.take_turns.ensures.constants) (ap (λ (k : StoreConstants). k.job) c.take_turns.ensures.constants) c.take_turns.ensures.ready
