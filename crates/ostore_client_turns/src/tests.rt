@@ -128,12 +128,12 @@ fn a_cache_and_frames_of_one_page_are_full(rt: HostRuntime) -> Result<(), Fail> 
 fn three_clients_give_one_report_under_all_mappers(rt: HostRuntime) -> Result<(), Fail> {
     let alloc = rt.alloc();
     let job = b"client a\nbegin\nnew $p Part 1\nset $p.id 1\ncommit\nread\nnew $p Part 1\ncommit\nclient b\nbegin\nnew $p Part 1\nset $p.id 2\nget $p.id\ncommit\nclient c\nbegin\nnew $p Part 2\nabort\nbegin\nnew $p Part 1\ncommit\n";
-    let wanted = b"";
-    let low = report_of(alloc, &Low, job, true);
+    let wanted = b"a.1 commit 1\n  1.1\n  ok\na.2 read 1\n  refused 16 ReadOnly\nb.1 commit 2 tries 2\n  1.2\n  ok\n  2\nc.1 abort tries 4\nc.2 commit 3\n  1.3\ncommits 3\n";
+    let low = report_of(alloc, &Low, job, false);
     assert!(rt; is_text(low, wanted));
-    let high = report_of(alloc, &High, job, true);
+    let high = report_of(alloc, &High, job, false);
     assert!(rt; is_text(high, wanted));
-    let mixed = report_of(alloc, &Mixed, job, true);
+    let mixed = report_of(alloc, &Mixed, job, false);
     assert!(rt; is_text(mixed, wanted));
     Ok(())
 }
