@@ -49,17 +49,19 @@ fn fresh_server(alloc: Global, text: &[u8], schema: &Schema) -> Result<Server, O
     }
 }
 
-/// Whether all commands of a client's transactions are of those that run.
-fn are_built_txns(txns: &[Txn]) -> bool
-    ensures { IsTrue result
-        ↔ AllByRecursion (λ txn. AllByRecursion IsBuilt txn.commands) txns.now }
+/// Whether all commands of a transaction are of those that run.
+fn is_built_txn(txn: &Txn) -> bool
+    ensures { IsTrue result ↔ AllByRecursion IsBuilt txn.now.commands }
 {
-    for txn in txns {
-        if !are_built(txn.commands.items()) {
-            return false;
-        }
-    }
-    true
+    are_built(txn.commands.items())
+}
+
+/// Whether all commands of a client's transactions are.
+fn is_built_client(client: &JobClient) -> bool
+    ensures { IsTrue result
+        ↔ AllByRecursion (λ txn. AllByRecursion IsBuilt txn.commands) client.now.txns }
+{
+    client.txns.items().iter().all(is_built_txn)
 }
 
 /// Whether all commands of all clients are.
@@ -67,12 +69,7 @@ fn are_built_clients(clients: &[JobClient]) -> bool
     ensures { IsTrue result ↔ AllByRecursion (λ client.
         AllByRecursion (λ txn. AllByRecursion IsBuilt txn.commands) client.txns) clients.now }
 {
-    for client in clients {
-        if !are_built_txns(client.txns.items()) {
-            return false;
-        }
-    }
-    true
+    clients.iter().all(is_built_client)
 }
 
 /// The report of a job of a text on a fresh database, whose tail tells the fetches where that is asked. None for a text of
@@ -85,7 +82,9 @@ fn report_of<M: Mapper>(alloc: Global, mapper: &M, text: &[u8], fetches: bool) -
     }
     spelled_can_run();
     spelled_settings_are_lawful();
-    let mut server = fresh_server(alloc, PART, &schema).ok()?;
+    let Ok(mut server) = fresh_server(alloc, PART, &schema) else {
+        return None;
+    };
     let run = run_turns(alloc, &schema, &job, &mut server, mapper).ok()?;
     let told = if fetches { run.tail.fetches } else { None };
     let tail = Tail {
