@@ -15,9 +15,7 @@ use ostore_address_space::{High, Low, Mapper, Mixed};
 use ostore_base::{MemDisk, OutOfMemory, Text};
 use ostore_client_core::GraphKind;
 use ostore_graph_model::{Txn, fresh_pages_are_empty};
-use ostore_job_text::{
-    Job, JobClient, parse_job, spelled_can_run, spelled_settings_are_lawful,
-};
+use ostore_job_text::{Job, JobClient, parse_job, spelled_can_run, spelled_settings_are_lawful};
 use ostore_object_ops::{are_built, is_of_ints};
 use ostore_page_service::SeqServer;
 use ostore_page_tags::fresh_pages;
@@ -104,8 +102,10 @@ fn is_text(text: Option<Text>, wanted: &[u8]) -> bool {
 
 #[test]
 fn a_client_that_meets_another_gives_up_on_its_last_try(rt: HostRuntime) -> Result<(), Fail> {
-    let job = b"client a\nbegin\nnew $p Part 1\ncommit\nclient b tries 1\nbegin\nnew $p Part 1\ncommit\nturns a*2 b*2\n";
-    let wanted = b"a.1 commit 1\n  1.1\nb.1 gaveup 1 busy 0 0000000100010001 0000000100010001\ncommits 1\nfetches 2\n";
+    let job =
+        b"client a\nbegin\nnew $p Part 1\ncommit\nclient b tries 1\nbegin\nnew $p Part 1\ncommit\nturns a*2 b*2\n";
+    let wanted =
+        b"a.1 commit 1\n  1.1\nb.1 gaveup 1 busy 0 0000000100010001 0000000100010001\ncommits 1\nfetches 2\n";
     let text = report_of(rt.alloc(), &Low, job, true);
     assert!(rt; is_text(text, wanted));
     Ok(())
@@ -126,8 +126,10 @@ fn a_cache_and_frames_of_one_page_are_full(rt: HostRuntime) -> Result<(), Fail> 
 #[test]
 fn three_clients_give_one_report_under_all_mappers(rt: HostRuntime) -> Result<(), Fail> {
     let alloc = rt.alloc();
-    let job = b"client a\nbegin\nnew $p Part 1\nset $p.id 1\ncommit\nread\nnew $p Part 1\ncommit\nclient b\nbegin\nnew $p Part 1\nset $p.id 2\nget $p.id\ncommit\nclient c\nbegin\nnew $p Part 2\nabort\nbegin\nnew $p Part 1\ncommit\n";
-    let wanted = b"a.1 commit 1\n  1.1\n  ok\na.2 read 1\n  refused 16 ReadOnly\nb.1 commit 2 tries 2\n  1.2\n  ok\n  2\nc.1 abort tries 4\nc.2 commit 3\n  1.3\ncommits 3\n";
+    let job =
+        b"client a\nbegin\nnew $p Part 1\nset $p.id 1\ncommit\nread\nnew $p Part 1\ncommit\nclient b\nbegin\nnew $p Part 1\nset $p.id 2\nget $p.id\ncommit\nclient c\nbegin\nnew $p Part 2\nabort\nbegin\nnew $p Part 1\ncommit\n";
+    let wanted =
+        b"a.1 commit 1\n  1.1\n  ok\na.2 read 1\n  refused 16 ReadOnly\nb.1 commit 2 tries 2\n  1.2\n  ok\n  2\nc.1 abort tries 4\nc.2 commit 3\n  1.3\ncommits 3\n";
     let low = report_of(alloc, &Low, job, false);
     assert!(rt; is_text(low, wanted));
     let high = report_of(alloc, &High, job, false);
