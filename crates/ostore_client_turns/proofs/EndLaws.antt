@@ -1,7 +1,7 @@
 -- What a run gives.
-use Rattle.std.proofs.Common.{◌≡◌, ◌<◌, ◌≤◌, ◌-◌, ◌^◌, ℕ, Bool, true, false, cond, min, List, [], length, map, Option, Some, Result, Ok, Err, refl, sym, ap, subst, ◌∙◌, arith}
+use Rattle.std.proofs.Common.{◌≡◌, ◌<◌, ◌≤◌, ◌-◌, ◌^◌, ℕ, Bool, true, false, cond, min, List, [], length, map, Option, Result, Ok, Err, refl, sym, ap, subst, ◌∙◌, arith}
 use Rattle.std.specs.Prelude.{IfOk}
-use Rattle.std.specs.List.{slice_get, sum, sum_by}
+use Rattle.std.specs.List.{sum_by}
 use Rattle.std.proofs.lemmas.Bool.{lt-ltb}
 use Rattle.std.proofs.lemmas.List.{length-map}
 use Rattle.std.proofs.lemmas.List.Sums.{sum-map}
@@ -25,7 +25,6 @@ use Rattle.ostore_turns.specs.Runs.{IsFirst, IsRunBy}
 use Rattle.ostore_turns.specs.Bounds.{AreBounded}
 use Rattle.ostore_turns.specs.RightResults.{ResultsAreRecords}
 use Rattle.ostore_graph_history.specs.Histories.{AreResultsOf, LawOfCommittedHistories, committed_entry}
-use Rattle.ostore_client_turns.specs.declared.run.Run.{Run}
 use Rattle.ostore_client_turns.specs.declared.seat.Seat.{Seat}
 use Rattle.ostore_client_turns.specs.Runs.{AreFetches, IsRunOf, IsTailOf, bounds_of, first_moment, script_of}
 use Rattle.ostore_client_turns.specs.inside.AtServer.{IsReadyAt}
@@ -53,16 +52,16 @@ module _ (law : LawOfCommittedHistories) (records_law : ResultsAreRecords) (sche
   run_of few begins by sound bounded records served tail tail_of =
       let none : IsFirst (first_moment first) = λ client. (refl, refl) in
       let run_by : IsRunBy job (first_moment first) after (record { results = ran.results; disk_failed = false }) =
-          subst (λ (failed : Bool). IsRunBy job (first_moment first) after (record { results = ran.results; disk_failed = failed })) (is_false ran.disk_failed sound)
-          (subst (λ (moment : Moment). IsRunBy job moment after ran) begins by) in
+      subst (λ (failed : Bool). IsRunBy job (first_moment first) after (record { results = ran.results; disk_failed = failed })) (is_false ran.disk_failed sound)
+      (subst (λ (moment : Moment). IsRunBy job moment after ran) begins by) in
       let are = records_law job (first_moment first) after (record { results = ran.results; disk_failed = false }) none run_by in
       let results : AreResultsOf (script_of schema job) (λ client. (told client).mine.records) ran.results = record {
         few = (let same = length-map job.clients (λ (client : JobClient). client.txns) in omega arith);
         of_each = are.of_each ∙ sym (length-map job.clients (λ (client : JobClient). client.txns));
         committed = λ client mine there.
             (let within = slice_get_within ran.results client mine there in
-              let all = are.of_each in
-              recorded_low told client (omega arith) ∙ sym (records client) ∙ are.committed client mine there);
+            let all = are.of_each in
+            recorded_low told client (omega arith) ∙ sym (records client) ∙ are.committed client mine there);
       } in
       let history = law (script_of schema job) first after.commits opened last (λ client. (told client).mine.records) served ran.results results in
       record {

@@ -1,5 +1,5 @@
 -- A turn of a client whose seat is one of a list.
-use Rattle.std.proofs.Common.{◌≡◌, ◌≢◌, ◌<◌, ◌≤◌, ◌+◌, ℕ, List, length, get_or, Option, Some, None, Result, Ok, Err, refl, sym, ap, subst, ◌∙◌, inl, inr, arith}
+use Rattle.std.proofs.Common.{◌≡◌, ◌≢◌, ◌<◌, ◌+◌, ℕ, List, length, get_or, Option, Some, None, Result, Ok, Err, refl, sym, ap, subst, ◌∙◌, inl, inr, arith}
 use Rattle.std.specs.Prelude.{IfOk}
 use Rattle.std.specs.Borrow.{GName}
 use Rattle.std.specs.Option.{option_map}
@@ -49,10 +49,10 @@ seat_read items number seat within is = ap (option_map view_of) (slice_get_read 
 set_other : {M : Type 0} (items : List (Seat M)) (number other : ℕ) (seat : Seat M) → other ≢ number → slice_get (set items number seat) other ≡ slice_get items other
 set_other items number other seat apart = elim (slice_get_cases items other).1 [
   | inl found ↦ (
-    let within : other < length (set items number seat) = omega (arith, length-set items number seat, found.1) in
-    slice_get-get_or (set items number seat) other seat within ∙ ap Some (get_or-set_other items number other seat seat apart)
-    ∙ sym (slice_get-get_or items other seat found.1)
-  )
+      let within : other < length (set items number seat) = omega (arith, length-set items number seat, found.1) in
+      slice_get-get_or (set items number seat) other seat within ∙ ap Some (get_or-set_other items number other seat seat apart)
+      ∙ sym (slice_get-get_or items other seat found.1)
+      )
   | inr past ↦ slice_get_past (set items number seat) other (omega (arith, length-set items number seat, past.0)) ∙ sym past.1
 ]
 
@@ -128,9 +128,11 @@ module _ {K D M : Type 0} {g : kind.Ghosts K Entry Script} (disk_faults : D → 
       pub executed_ready : (result : Result Gave OutOfMemory) → IfOk result (TakesTurnAt disk_faults server after number its.tries txn (view_of old) (view_of new))
           → length items ≡ length job.clients → IfOk result (λ gave. IsReadyAt disk_faults after schema job (seats_in (set items at new)) × (length (set items at new) ≡ length job.clients))
       executed_ready (Ok gave) took long =
-          let took_now = took_as gave took in
-          (ready_renamed disk_faults after took_now.0 schema job (seats_in (set items at new))
-          (ready_then (Serves server) (Serves after) (λ n. told_of took_now.0 disk_faults n server) (λ n. told_of took_now.0 disk_faults n after) (opened_of server) (journal_of server).number (journal_of after).number
-          schema job (seats_in items) (seats_in (set items at new)) number is_in.client txn (view_of old) (view_of new) gave (ready took_now.0) (all_told disk_faults server took_now.0)
-          (all_told_as disk_faults after took_now.0 (opened_of server) opened) turn replaced took_now.1), length-set items at new ∙ long)
+          let took_now = took_as gave took in (
+            ready_renamed disk_faults after took_now.0 schema job (seats_in (set items at new))
+                (ready_then (Serves server) (Serves after) (λ n. told_of took_now.0 disk_faults n server) (λ n. told_of took_now.0 disk_faults n after) (opened_of server) (journal_of server).number (journal_of after).number
+                schema job (seats_in items) (seats_in (set items at new)) number is_in.client txn (view_of old) (view_of new) gave (ready took_now.0) (all_told disk_faults server took_now.0)
+                (all_told_as disk_faults after took_now.0 (opened_of server) opened) turn replaced took_now.1),
+            length-set items at new ∙ long,
+          )
       executed_ready (Err fault) took long = tt

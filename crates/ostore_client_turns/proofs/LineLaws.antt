@@ -1,5 +1,5 @@
 -- A line that was executed at a client's service.
-use Rattle.std.proofs.Common.{◌≡◌, ℕ, Result, Ok, Err, sym, subst}
+use Rattle.std.proofs.Common.{◌≡◌, ℕ, Result, Ok, Err, subst}
 use Rattle.std.specs.Prelude.{IfOk, IfErr}
 use Rattle.std.specs.Borrow.{GName}
 use Rattle.ostore_page_service.specs.declared.kind.Kind as kind
@@ -46,7 +46,8 @@ module _ {K D : Type 0} {g : kind.Ghosts K Entry Script} (disk_faults : D → �
       → ExecutesAt disk_faults server after number txn ordinal old new result
   executed_there own at client =
       let all : Executes (Serves server) (Serves after) (told_of behind disk_faults number server) (told_of name disk_faults then after) txn ordinal old.client new.client old.attempt new.attempt result =
-          record { gives = gives; own = own; at = at; client = client } in
-      (behind,
+      record { gives = gives; own = own; at = at; client = client } in (
+        behind,
         subst (λ (n : ℕ). Executes (Serves server) (Serves after) (told_of behind disk_faults number server) (told_of behind disk_faults n after) txn ordinal old.client new.client old.attempt new.attempt result) client_kept
-        (subst (λ (b : GName). Executes (Serves server) (Serves after) (told_of behind disk_faults number server) (told_of b disk_faults then after) txn ordinal old.client new.client old.attempt new.attempt result) name_kept all))
+            (subst (λ (b : GName). Executes (Serves server) (Serves after) (told_of behind disk_faults number server) (told_of b disk_faults then after) txn ordinal old.client new.client old.attempt new.attempt result) name_kept all),
+      )

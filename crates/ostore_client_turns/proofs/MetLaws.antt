@@ -1,5 +1,5 @@
 -- Who holds a page has executed a command.
-use Rattle.std.proofs.Common.{◌≡◌, ◌≢◌, ◌<◌, ◌≤◌, ◌+◌, ◌⊎◌, inl, inr, ℕ, Bool, true, false, List, [], ◌∷◌, length, Option, Some, None, refl, sym, ap, subst, ◌∙◌, arith}
+use Rattle.std.proofs.Common.{◌≡◌, ◌≢◌, ◌<◌, ◌≤◌, ◌⊎◌, inl, inr, ℕ, Bool, true, false, List, [], ◌∷◌, length, Option, Some, None, refl, sym, ap, subst, ◌∙◌, arith}
 use Rattle.std.specs.Prelude.{IsSome}
 use Rattle.std.specs.List.{slice_get}
 use Rattle.std.proofs.lemmas.Bool.{false≢true}
@@ -20,7 +20,7 @@ use Rattle.ostore_client_cache.specs.declared.entries.CachedPage.{CachedPage}
 use Rattle.ostore_client_cache.specs.declared.entries.Hold.{Hold}
 use Rattle.ostore_client_cache.specs.declared.entries.Hold.TheVariants.{Retained, InUse, Owned}
 use Rattle.ostore_client_cache.specs.Entries.{is_in_use, is_owned, is_owner, is_used}
-use Rattle.ostore_client_core.specs.Clients.{ClientView, IsIdle, IsOwn, IsTied, IsTiedBy, entry_of, stored_image}
+use Rattle.ostore_client_core.specs.Clients.{ClientView, IsIdle, IsTied, IsTiedBy, entry_of, stored_image}
 use Rattle.ostore_client_core.specs.Attempts.{seen_list}
 use Rattle.ostore_client_access.specs.Accesses.{MeetsAnother}
 use Rattle.ostore_transactions.specs.Attempts.{IsAlong, IsWith, line_in}
@@ -107,7 +107,7 @@ busy_seat serves told schema clients seats commits number client seat page there
     let found = txn_there (slice_get client.txns seat.place.txn) (λ none. not_idle seat.client page used (seated.over none)) in
     let place : place_of (seats number) ≡ seat.place = ap place_of sits in
     let executed : HasExecuted seat.client found.0 seat.place.line =
-        subst (HasExecuted seat.client found.0) (sym seated.line) (executed_with serves (told number) seat.client found.0 seat.attempt.progress page (seated.at found.0 found.1) used) in
+    subst (HasExecuted seat.client found.0) (sym seated.line) (executed_with serves (told number) seat.client found.0 seat.attempt.progress page (seated.at found.0 found.1) used) in
     record {
       txn = found.0;
       is_in = record {
@@ -132,41 +132,41 @@ module _ (serves : Script → Type 0) (told : ℕ → Told Entry) (schema : Sche
   owner_met : (other : ℕ) → other < most_clients → other ≢ number → (told other).mine.owned page ≡ true → IsMet clients (moment_in told commits seats) number txn
   owner_met other low apart owned = elim (found_client clients other) [
     | inl found ↦ (let sits = seated.each other found.0 found.1 in
-      let is = owned_in (stored_image sits.0.client page) (told other).mine page (entry_of sits.0.client page) (sits.2.own.tied page) owned in
-      let busy = busy_seat serves told schema clients seats commits other found.0 sits.0 page found.1 sits.1 sits.2 is.0 in
-      record {
-        other = other;
-        another = apart;
-        begun = busy.txn;
-        is_in = busy.is_in;
-        executed = busy.executed.executed;
-        updates = inr (busy.executed.owns page is.1);
-      })
+        let is = owned_in (stored_image sits.0.client page) (told other).mine page (entry_of sits.0.client page) (sits.2.own.tied page) owned in
+        let busy = busy_seat serves told schema clients seats commits other found.0 sits.0 page found.1 sits.1 sits.2 is.0 in
+        record {
+          other = other;
+          another = apart;
+          begun = busy.txn;
+          is_in = busy.is_in;
+          executed = busy.executed.executed;
+          updates = inr (busy.executed.owns page is.1);
+        })
     | inr none ↦ absurd (false≢true (sym ((seated.vacant other none low).owned page) ∙ owned))
   ]
 
   user_met : (other : ℕ) → other < most_clients → other ≢ number → txn.update ≡ true → IsSome ((told other).mine.held page) → IsMet clients (moment_in told commits seats) number txn
   user_met other low apart update held = elim (found_client clients other) [
     | inl found ↦ (let sits = seated.each other found.0 found.1 in
-      let is = used_in (stored_image sits.0.client page) (told other).mine page (entry_of sits.0.client page) (sits.2.own.tied page) held in
-      let busy = busy_seat serves told schema clients seats commits other found.0 sits.0 page found.1 sits.1 sits.2 is in
-      record {
-        other = other;
-        another = apart;
-        begun = busy.txn;
-        is_in = busy.is_in;
-        executed = busy.executed.executed;
-        updates = inl update;
-      })
+        let is = used_in (stored_image sits.0.client page) (told other).mine page (entry_of sits.0.client page) (sits.2.own.tied page) held in
+        let busy = busy_seat serves told schema clients seats commits other found.0 sits.0 page found.1 sits.1 sits.2 is in
+        record {
+          other = other;
+          another = apart;
+          begun = busy.txn;
+          is_in = busy.is_in;
+          executed = busy.executed.executed;
+          updates = inl update;
+        })
     | inr none ↦ absurd (not_some ((told other).mine.held page) ((seated.vacant other none low).held page) held)
   ]
 
   pub is_met : MeetsAnother txn.update (told number) page → IsMet clients (moment_in told commits seats) number txn
   is_met met = elim met [
     | inl owner ↦ (let other = owner (all.tells number) in
-      owner_met other.0 other.1 (λ same. other.2 (same ∙ sym (all.client number)))
-      (ap (λ (side : Side Entry). side.owned page) (sym (all.others number other.0)) ∙ other.3))
+        owner_met other.0 other.1 (λ same. other.2 (same ∙ sym (all.client number)))
+        (ap (λ (side : Side Entry). side.owned page) (sym (all.others number other.0)) ∙ other.3))
     | inr user ↦ (let other = user.1 (all.tells number) in
-      user_met other.0 other.1 (λ same. other.2 (same ∙ sym (all.client number))) user.0
-      (subst (λ (side : Side Entry). IsSome (side.held page)) (all.others number other.0) other.3))
+        user_met other.0 other.1 (λ same. other.2 (same ∙ sym (all.client number))) user.0
+        (subst (λ (side : Side Entry). IsSome (side.held page)) (all.others number other.0) other.3))
   ]

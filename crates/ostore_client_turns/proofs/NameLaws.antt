@@ -1,20 +1,19 @@
 -- What is said of clients at a server holds by whatever reference it is reached.
-use Rattle.std.proofs.Common.{◌≡◌, ◌<◌, ℕ, List, Option, Some, refl, sym, ap, subst, ◌∙◌}
+use Rattle.std.proofs.Common.{◌≡◌, ℕ, List, Option, refl, subst}
 use Rattle.std.specs.Borrow.{GName}
 use Rattle.ostore_page_service.specs.declared.kind.Kind as kind
 use Rattle.ostore_page_service.specs.declared.server.SeqServer.{SeqServer}
 use Rattle.ostore_page_service.specs.Servers.{journal_of, opened_of, told_of, Serves}
-use Rattle.ostore_page_service.specs.Told.{SameService, Side, Told, Undisturbed}
+use Rattle.ostore_page_service.specs.Told.{Side, Undisturbed}
 use Rattle.ostore_base.specs.declared.page.PageImage.{PageImage}
 use Rattle.ostore_schema_layout.specs.declared.schema.Schema.{Schema}
 use Rattle.ostore_graph_model.specs.declared.commands.Script.{Script}
 use Rattle.ostore_graph_model.specs.declared.history.Entry.{Entry}
 use Rattle.ostore_job_text.specs.declared.job.Job.{Job}
-use Rattle.ostore_job_text.specs.declared.job.JobClient.{JobClient}
 use Rattle.ostore_client_core.specs.Clients.{ClientView, IsOwn}
 use Rattle.ostore_client_turns.specs.Runs.{script_of}
 use Rattle.ostore_client_turns.specs.inside.AtServer.{IsOwnAt, IsReadyAt}
-use Rattle.ostore_client_turns.specs.inside.Stores.{AreTold, IsReady, IsSeated, SeatView}
+use Rattle.ostore_client_turns.specs.inside.Stores.{AreTold, IsReady, SeatView}
 use Rattle.ostore_client_turns.proofs.StayLaws.{Stays, stays_own, stays_seated, stays_vacant}
 
 undisturbed : (side : Side Entry) → Undisturbed side side
@@ -40,10 +39,12 @@ module _ {K D : Type 0} {g : kind.Ghosts K Entry Script} (disk_faults : D → �
     executable = ready.executable;
     served = ready.served;
     seated = record {
-      each = λ number client there. (let found = ready.seated.each number client there in
-        (found.0, found.1,
-          stays_seated (Serves server) (Serves server) (told_of behind disk_faults number server) (told_of other disk_faults number server) schema client found.0 (stays behind other number)
-          (script_of schema job, ready.served, refl) found.2));
+      each = λ number client there. (let found = ready.seated.each number client there in (
+        found.0,
+        found.1,
+        stays_seated (Serves server) (Serves server) (told_of behind disk_faults number server) (told_of other disk_faults number server) schema client found.0 (stays behind other number)
+            (script_of schema job, ready.served, refl) found.2,
+      ));
       vacant = λ number high low. stays_vacant (told_of behind disk_faults number server) (told_of other disk_faults number server) (stays behind other number) (ready.seated.vacant number high low);
     };
   }

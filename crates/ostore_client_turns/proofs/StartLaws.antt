@@ -1,5 +1,5 @@
 -- How a run begins: each client at the first line of its script, without a page.
-use Rattle.std.proofs.Common.{◌≡◌, ◌≢◌, ◌<◌, ◌≤◌, ◌+◌, ℕ, Bool, true, false, cond, List, [], ◌∷◌, ◌++◌, length, map, get_or, replicate, Option, Some, None, refl, sym, ap, subst, ◌∙◌, inl, inr, arith}
+use Rattle.std.proofs.Common.{◌≡◌, ◌<◌, ◌+◌, ℕ, Bool, true, false, cond, List, [], ◌∷◌, ◌++◌, length, map, get_or, replicate, Option, Some, None, refl, sym, ap, subst, ◌∙◌, inl, inr, arith}
 use Rattle.std.specs.Prelude.{All}
 use Rattle.std.specs.Borrow.{GName}
 use Rattle.std.specs.Option.{option_map}
@@ -19,7 +19,6 @@ use Rattle.ostore_page_service.specs.Holding.{IsEmpty}
 use Rattle.ostore_page_service.specs.Servers.{journal_of, side_of, told_of, Serves}
 use Rattle.ostore_page_service.specs.Told.{Told}
 use Rattle.ostore_graph_model.specs.declared.commands.Script.{Script}
-use Rattle.ostore_graph_model.specs.declared.commands.Txn.{Txn}
 use Rattle.ostore_graph_model.specs.declared.history.Entry.{Entry}
 use Rattle.ostore_job_text.specs.LawfulJob.{HasLawfulSettings}
 use Rattle.ostore_job_text.specs.declared.job.Job.{Job}
@@ -33,7 +32,7 @@ use Rattle.ostore_turns.specs.Runs.{IsFirst}
 use Rattle.ostore_graph_history.specs.Histories.{committed_entry}
 use Rattle.ostore_client_turns.specs.declared.seat.Seat.{Seat}
 use Rattle.ostore_client_turns.specs.Runs.{first_moment, script_of}
-use Rattle.ostore_client_turns.specs.inside.AtServer.{AreAllFreshAt, IsFreshAt, IsOwnAt, IsReadyAt, moment_at}
+use Rattle.ostore_client_turns.specs.inside.AtServer.{AreAllFreshAt, IsFreshAt, IsReadyAt, moment_at}
 use Rattle.ostore_client_turns.specs.inside.Seats.{seats_in, view_of}
 use Rattle.ostore_client_turns.specs.inside.Stores.{IsExecutable, IsFreshSeat, SeatView, place_of, recorded}
 use Rattle.ostore_client_turns.proofs.StoreLaws.{all_at}
@@ -96,12 +95,14 @@ module _ {K D M : Type 0} {g : kind.Ghosts K Entry Script} (disk_faults : D → 
     long = (let more = length-append items (seat ∷ []) in let old = fresh.long in omega arith);
     each = λ number its there less. elim (cases_lt number count) [
       | inl before ↦ (let found = fresh.each number its there before in
-        let low : number < length items = (let old = fresh.long in omega arith) in
-        (found.0, ap (option_map view_of) (push_before items seat number low) ∙ found.1, found.2))
+          let low : number < length items = (let old = fresh.long in omega arith) in
+          (found.0, ap (option_map view_of) (push_before items seat number low) ∙ found.1, found.2))
       | inr after ↦ (let is : number ≡ count = omega arith in
-        let mine : its ≡ client = same_Some its client (sym there ∙ ap (slice_get clients) is ∙ here) in
-        (view_of seat, ap (option_map view_of) (push_here items seat number (fresh.long ∙ sym is)),
-          subst (λ (n : ℕ). IsFreshAt disk_faults server n schema its (view_of seat)) (sym is) (subst (λ (c : JobClient). IsFreshAt disk_faults server count schema c (view_of seat)) (sym mine) one)))
+          let mine : its ≡ client = same_Some its client (sym there ∙ ap (slice_get clients) is ∙ here) in (
+            view_of seat,
+            ap (option_map view_of) (push_here items seat number (fresh.long ∙ sym is)),
+            subst (λ (n : ℕ). IsFreshAt disk_faults server n schema its (view_of seat)) (sym is) (subst (λ (c : JobClient). IsFreshAt disk_faults server count schema c (view_of seat)) (sym mine) one),
+          ))
     ];
   }
 

@@ -1,7 +1,6 @@
 -- What a call for one client leaves of the others.
 use Rattle.std.proofs.Common.{◌≡◌, ◌<◌, ◌≤◌, ◌+◌, ℕ, List, length, Option, Some, None, refl, sym, ap, subst, ◌∙◌}
 use Rattle.std.specs.Prelude.{All, IsSome}
-use Rattle.std.specs.List.{slice_get}
 use Rattle.std.proofs.lemmas.Option.{none-some}
 use Rattle.ostore_base.specs.declared.page.PageImage.{PageImage}
 use Rattle.ostore_base.specs.Limits.{most_pages}
@@ -16,10 +15,9 @@ use Rattle.ostore_client_cache.specs.declared.entries.CachedPage.{CachedPage}
 use Rattle.ostore_client_cache.specs.declared.entries.Hold.{Hold}
 use Rattle.ostore_client_cache.specs.declared.entries.Hold.TheVariants.{Retained, InUse, Owned}
 use Rattle.ostore_client_core.specs.Clients.{ClientView, AreKnown, IsOwn, IsTied, IsTiedBy, entry_of, stored_image}
-use Rattle.ostore_client_core.specs.Attempts.{Attempts, IsBase, MayBe}
+use Rattle.ostore_client_core.specs.Attempts.{Attempts, IsBase}
 use Rattle.ostore_client_access.specs.Attempts.{HasRunLines}
-use Rattle.ostore_transactions.specs.declared.attempt.Attempt.{Attempt}
-use Rattle.ostore_transactions.specs.Attempts.{IsAlong, IsAt, IsWith}
+use Rattle.ostore_transactions.specs.Attempts.{IsWith}
 use Rattle.ostore_client_turns.specs.inside.Stores.{IsSeated, IsVacant, SeatView}
 
 -- another client's call: the service is the same client's, of the same pages, and holds what it held

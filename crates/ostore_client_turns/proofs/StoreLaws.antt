@@ -1,13 +1,13 @@
 -- A turn of one client, among all clients of the job.
-use Rattle.std.proofs.Common.{◌≡◌, ◌≢◌, ◌<◌, ◌≤◌, ◌+◌, ◌-◌, ◌⊎◌, inl, inr, ℕ, zero, suc, Bool, true, false, cond, List, [], ◌∷◌, ◌++◌, length, map, Option, Some, None, Result, Ok, Err, refl, sym, ap, subst, ◌∙◌, arith}
-use Rattle.std.specs.Prelude.{nat_lt, option_and_then}
+use Rattle.std.proofs.Common.{◌≡◌, ◌≢◌, ◌<◌, ◌≤◌, ◌+◌, ◌-◌, inl, inr, ℕ, zero, suc, Bool, true, false, cond, List, [], ◌∷◌, ◌++◌, length, map, Option, Some, Result, Ok, Err, refl, sym, ap, subst, ◌∙◌, arith}
+use Rattle.std.specs.Prelude.{option_and_then}
 use Rattle.std.specs.Option.{option_map}
 use Rattle.std.specs.List.{slice_get, AllByRecursion}
 use Rattle.std.proofs.lemmas.Bool.{false≢true, lt-ltb, ltb-true}
 use Rattle.std.proofs.lemmas.Bool.Decides.{eqb_tells}
 use Rattle.std.proofs.lemmas.List.{map-append}
 use Rattle.std.proofs.lemmas.Option.{none-some, same_Some, slice_get-map, slice_get_within}
-use Rattle.std.proofs.Math.Dec.{eqb, eqb-suc-zero, ltb}
+use Rattle.std.proofs.Math.Dec.{eqb-suc-zero, ltb}
 use Rattle.ostore_base.specs.Limits.{most_clients}
 use Rattle.ostore_base.specs.declared.page.PageImage.{PageImage}
 use Rattle.ostore_schema_layout.specs.declared.schema.Schema.{Schema}
@@ -22,28 +22,25 @@ use Rattle.ostore_graph_model.specs.declared.values.Reply.{Reply}
 use Rattle.ostore_graph_model.specs.History.{txn_at}
 use Rattle.ostore_job_text.specs.declared.job.Job.{Job}
 use Rattle.ostore_job_text.specs.declared.job.JobClient.{JobClient}
-use Rattle.ostore_job_text.specs.RunnableJobs.{lines_of}
 use Rattle.ostore_object_ops.specs.Suits.{IsBuilt}
 use Rattle.ostore_run_report.specs.declared.results.Cause.{Cause}
 use Rattle.ostore_run_report.specs.declared.results.Cause.TheVariants as causes
 use Rattle.ostore_run_report.specs.Results.{committed_as}
 use Rattle.ostore_client_core.specs.declared.fault.AttemptFault.{AttemptFault}
 use Rattle.ostore_client_core.specs.declared.fault.AttemptFault.TheVariants as faults
-use Rattle.ostore_client_core.specs.Clients.{ClientView}
-use Rattle.ostore_transactions.specs.declared.attempt.Attempt.{Attempt}
 use Rattle.ostore_transactions.specs.declared.line.Line.{Line}
 use Rattle.ostore_transactions.specs.declared.line.Line.TheVariants as lines
 use Rattle.ostore_transactions.specs.Attempts.{last_line, line_at}
 use Rattle.ostore_transactions.specs.Causes.{IsCommandLine as IsCommand, LacksPages as LacksThere}
 use Rattle.ostore_transactions.specs.Lines.{HasFailed, entry_by}
 use Rattle.ostore_turns.specs.declared.attempts.Gave.{Gave}
-use Rattle.ostore_turns.specs.declared.attempts.Gave.TheVariants.{Going, Committed, Aborted, Failed}
+use Rattle.ostore_turns.specs.declared.attempts.Gave.TheVariants.{Going, Committed, Aborted}
 use Rattle.ostore_turns.specs.declared.place.Place.{Place}
 use Rattle.ostore_turns.specs.Places.{IsIn, Moment, moved}
 use Rattle.ostore_turns.specs.LawfulTurns.{commits_then, IsCauseAt, IsCommandLine, IsLastLine, MayGive, Turns, moved_one, recorded_one, records_then}
 use Rattle.ostore_turns.specs.Bounds.{GivesWithin, IsBounded}
 use Rattle.ostore_graph_history.specs.Histories.{committed_entry}
-use Rattle.ostore_graph_history.specs.Space.{IsAhead, LacksPages, LawOfLackedSpace}
+use Rattle.ostore_graph_history.specs.Space.{LacksPages, LawOfLackedSpace}
 use Rattle.ostore_client_turns.specs.Causes.{cause_of, cause_of_commit}
 use Rattle.ostore_client_turns.specs.Runs.{AreBuilt, bounds_of, script_of}
 use Rattle.ostore_client_turns.specs.inside.Stores.{AreSeated, AreTold, IsReady, IsSeated, IsVacant, SeatView, moment_in, place_of, recorded}
@@ -169,19 +166,23 @@ module _ (serves later : Script → Type 0) (told now : ℕ → Told Entry) (ope
   seat_of : (other : ℕ) (its : JobClient) → slice_get job.clients other ≡ Some its → (sits : SeatView) × (after other ≡ Some sits) × IsSeated later (now other) schema its sits
   seat_of other its there = elim (eqb_tells other number) [
     | inl is ↦ (
-      let mine : its ≡ client = same_Some its client (sym there ∙ ap (slice_get job.clients) is.1 ∙ turn.there) in
-      (new, ap after is.1 ∙ replaces.here,
-        subst (λ (c : JobClient). IsSeated later (now other) schema c new) (sym mine)
-        (subst (λ (n : ℕ). IsSeated later (now n) schema client new) (sym is.1)
-        (turned_seat serves later (told number) (now number) schema client txn old new gave seat turn.next took)))
-    )
+        let mine : its ≡ client = same_Some its client (sym there ∙ ap (slice_get job.clients) is.1 ∙ turn.there) in (
+          new,
+          ap after is.1 ∙ replaces.here,
+          subst (λ (c : JobClient). IsSeated later (now other) schema c new) (sym mine)
+              (subst (λ (n : ℕ). IsSeated later (now n) schema client new) (sym is.1)
+              (turned_seat serves later (told number) (now number) schema client txn old new gave seat turn.next took)),
+        )
+        )
     | inr apart ↦ (
-      let found = ready.seated.each other its there in
-      let within = slice_get_within job.clients other its there in
-      let few = ready.executable.few in
-      (found.0, replaces.others other apart.1 ∙ found.1,
-        stays_seated serves later (told other) (now other) schema its found.0 (stays other (omega arith) apart.1) (script_of schema job, served, refl) found.2)
-    )
+        let found = ready.seated.each other its there in
+        let within = slice_get_within job.clients other its there in
+        let few = ready.executable.few in (
+          found.0,
+          replaces.others other apart.1 ∙ found.1,
+          stays_seated serves later (told other) (now other) schema its found.0 (stays other (omega arith) apart.1) (script_of schema job, served, refl) found.2,
+        )
+        )
   ]
 
   vacant_of : (other : ℕ) → length job.clients ≤ other → other < most_clients → IsVacant (now other)
@@ -313,29 +314,29 @@ module _ (serves later : Script → Type 0) (told now : ℕ → Told Entry) (ope
   records_turned : (other : ℕ) → recorded now other ≡ recorded_one number (before.places number) txn.update gave (recorded told) other
   records_turned other = elim (eqb_tells other number) [
     | inl is ↦ (
-      let mine : recorded now number ≡ records_then number (before.places number) txn.update gave (recorded told number) =
-          recorded_here now ∙ recorded_by took.result took.executes.gives took.gives ∙ ap (records_then number (before.places number) txn.update gave) (sym (recorded_here told)) in
-      ap (recorded now) is.1 ∙ mine ∙ ap (λ (n : ℕ). records_then number (before.places number) txn.update gave (recorded told n)) (sym is.1)
-      ∙ ap (λ (b : Bool). cond b (records_then number (before.places number) txn.update gave (recorded told other)) (recorded told other)) (sym is.0)
-    )
+        let mine : recorded now number ≡ records_then number (before.places number) txn.update gave (recorded told number) =
+        recorded_here now ∙ recorded_by took.result took.executes.gives took.gives ∙ ap (records_then number (before.places number) txn.update gave) (sym (recorded_here told)) in
+        ap (recorded now) is.1 ∙ mine ∙ ap (λ (n : ℕ). records_then number (before.places number) txn.update gave (recorded told n)) (sym is.1)
+        ∙ ap (λ (b : Bool). cond b (records_then number (before.places number) txn.update gave (recorded told other)) (recorded told other)) (sym is.0)
+        )
     | inr apart ↦ (
-      recorded_other other (ltb other most_clients) refl apart.1
-      ∙ ap (λ (b : Bool). cond b (records_then number (before.places number) txn.update gave (recorded told other)) (recorded told other)) (sym apart.0)
-    )
+        recorded_other other (ltb other most_clients) refl apart.1
+        ∙ ap (λ (b : Bool). cond b (records_then number (before.places number) txn.update gave (recorded told other)) (recorded told other)) (sym apart.0)
+        )
   ]
 
   places_turned : (other : ℕ) → place_of (after other) ≡ moved_one number client.tries gave before.places other
   places_turned other = elim (eqb_tells other number) [
     | inl is ↦ (
-      let mine : place_of (after number) ≡ moved client.tries (before.places number) gave =
-          ap place_of replaces.here ∙ took.place ∙ ap (λ (p : Place). moved client.tries p gave) (sym here) in
-      ap (λ (n : ℕ). place_of (after n)) is.1 ∙ mine ∙ ap (λ (n : ℕ). moved client.tries (before.places n) gave) (sym is.1)
-      ∙ ap (λ (b : Bool). cond b (moved client.tries (before.places other) gave) (before.places other)) (sym is.0)
-    )
+        let mine : place_of (after number) ≡ moved client.tries (before.places number) gave =
+        ap place_of replaces.here ∙ took.place ∙ ap (λ (p : Place). moved client.tries p gave) (sym here) in
+        ap (λ (n : ℕ). place_of (after n)) is.1 ∙ mine ∙ ap (λ (n : ℕ). moved client.tries (before.places n) gave) (sym is.1)
+        ∙ ap (λ (b : Bool). cond b (moved client.tries (before.places other) gave) (before.places other)) (sym is.0)
+        )
     | inr apart ↦ (
-      ap place_of (replaces.others other apart.1)
-      ∙ ap (λ (b : Bool). cond b (moved client.tries (before.places other) gave) (before.places other)) (sym apart.0)
-    )
+        ap place_of (replaces.others other apart.1)
+        ∙ ap (λ (b : Bool). cond b (moved client.tries (before.places other) gave) (before.places other)) (sym apart.0)
+        )
   ]
 
   pub may_turn : MayGive job.clients (moment_in told commits seats) number txn gave

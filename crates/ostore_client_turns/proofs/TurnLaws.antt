@@ -1,42 +1,34 @@
 -- What a client's line, executed at the server, gives as a turn.
-use Rattle.std.proofs.Common.{◌≡◌, ◌≢◌, ◌<◌, ◌≤◌, ◌+◌, ◌-◌, ℕ, zero, suc, Bool, true, false, cond, List, [], ◌∷◌, ◌++◌, length, map, Option, Some, None, Result, Ok, Err, refl, sym, ap, subst, ◌∙◌, arith}
-use Rattle.std.specs.Prelude.{All, option_and_then}
+use Rattle.std.proofs.Common.{◌≡◌, ◌<◌, ◌≤◌, ◌+◌, ℕ, Bool, true, false, cond, List, [], ◌∷◌, length, Option, Some, None, Result, Ok, Err, refl, sym, ap, subst, ◌∙◌, arith}
+use Rattle.std.specs.Prelude.{All}
 use Rattle.std.specs.Option.{option_map}
-use Rattle.std.specs.List.{slice_get, AllByRecursion}
-use Rattle.std.proofs.lemmas.Bool.{false≢true}
+use Rattle.std.specs.List.{slice_get}
 use Rattle.std.proofs.lemmas.List.Elements.{All-append, All-cons, All-nil}
 use Rattle.std.proofs.lemmas.Option.{none-some, same_Some}
-use Rattle.ostore_base.specs.declared.page.PageImage.{PageImage}
 use Rattle.ostore_schema_layout.specs.declared.schema.Schema.{Schema}
-use Rattle.ostore_page_service.specs.declared.answers.CommitFault.{CommitFault}
-use Rattle.ostore_page_service.specs.declared.answers.CommitFault.TheVariants as commit_faults
-use Rattle.ostore_page_service.specs.Told.{MayCome, Numbers, SameService, StillServes, Told}
+use Rattle.ostore_page_service.specs.Told.{Numbers, SameService, Told}
 use Rattle.ostore_graph_model.specs.declared.commands.Script.{Script}
 use Rattle.ostore_graph_model.specs.declared.commands.Txn.{Txn}
 use Rattle.ostore_graph_model.specs.declared.history.Entry.{Entry}
-use Rattle.ostore_graph_model.specs.declared.values.Reply.{Reply}
 use Rattle.ostore_graph_model.specs.History.{txn_at}
 use Rattle.ostore_job_text.specs.declared.job.JobClient.{JobClient}
 use Rattle.ostore_run_report.specs.declared.results.Cause.{Cause}
-use Rattle.ostore_run_report.specs.declared.results.Cause.TheVariants as causes
 use Rattle.ostore_client_core.specs.declared.fault.AttemptFault.{AttemptFault}
-use Rattle.ostore_client_core.specs.declared.fault.AttemptFault.TheVariants as faults
-use Rattle.ostore_client_core.specs.Clients.{ClientView, IsIdle, IsOwn}
+use Rattle.ostore_client_core.specs.Clients.{ClientView, IsOwn}
 use Rattle.ostore_client_core.specs.Calls.{SameClient}
 use Rattle.ostore_transactions.specs.declared.attempt.Attempt.{Attempt}
 use Rattle.ostore_transactions.specs.declared.line.Line.{Line}
 use Rattle.ostore_transactions.specs.declared.line.Line.TheVariants as lines
 use Rattle.ostore_transactions.specs.Attempts.{IsAt, IsOver, IsWith, line_at, line_in}
-use Rattle.ostore_transactions.specs.Causes.{ComesAt, IsCause}
 use Rattle.ostore_transactions.specs.Lines.{entry_by}
 use Rattle.ostore_turns.specs.declared.attempts.Gave.{Gave}
 use Rattle.ostore_turns.specs.declared.attempts.Gave.TheVariants.{Going, Committed, Aborted, Failed}
 use Rattle.ostore_turns.specs.declared.place.Place.{Place}
 use Rattle.ostore_turns.specs.Places.{is_retried, moved, next_attempt, next_line, next_txn}
 use Rattle.ostore_turns.specs.LawfulTurns.{commits_then, number_of}
-use Rattle.ostore_client_turns.specs.Causes.{cause_of, cause_of_commit}
+use Rattle.ostore_client_turns.specs.Causes.{cause_of}
 use Rattle.ostore_client_turns.specs.inside.Stores.{IsSeated, SeatView}
-use Rattle.ostore_client_turns.specs.inside.Turning.{Executes, GivesLine, TakesTurn, gave_of}
+use Rattle.ostore_client_turns.specs.inside.Turning.{GivesLine, TakesTurn, gave_of}
 
 -- ---- what the line gave
 
@@ -171,7 +163,7 @@ module _ (serves later : Script → Type 0) (told now : Told Entry) (schema : Sc
       let P : Entry × ℕ → Type 0 = λ earlier. earlier.0.ordinal < old.place.txn + 1 + 1 in
       let last : All P ((entry, number) ∷ []) = All-cons P (entry, number) [] (omega arith) (All-nil P) in
       let all : AreBefore (old.place.txn + 1 + 1) now.mine.records = subst (AreBefore (old.place.txn + 1 + 1)) (sym gives.done.records)
-              (All-append P told.mine.records ((entry, number) ∷ []) older last) in
+      (All-append P told.mine.records ((entry, number) ∷ []) older last) in
       ended_seat later now schema client new own of_schema most_same frames_same gives.over (ap (λ (p : Place). p.line) place)
       (subst (λ (p : Place). AreBefore (p.txn + 1) now.mine.records) (sym place) all)
   seat_by gave (Ok lines.Aborted) gives is moves =

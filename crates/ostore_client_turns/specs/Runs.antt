@@ -1,5 +1,5 @@
 -- What a run of a job on the pages of a server promises.
-use Rattle.std.specs.Prelude.{◌≡◌, ◌<◌, ◌-◌, ◌^◌, ℕ, false, min, sum, List, [], length, map, Some, None}
+use Rattle.std.specs.Prelude.{◌≡◌, ◌-◌, ◌^◌, ℕ, false, min, sum, List, [], length, map, Some, None}
 use Rattle.std.specs.List.{AllByRecursion}
 use Rattle.ostore_base.specs.declared.page.PageImage.{PageImage}
 use Rattle.ostore_schema_layout.specs.declared.schema.Schema.{Schema}

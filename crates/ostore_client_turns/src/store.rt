@@ -81,12 +81,12 @@ impl<'s, 'v, 'a, D: Disk, M: Mapper> Attempts for Store<'s, 'v, 'a, D, M> {
         (seats_in s.seats.now.items) };
 
     ghost constants = { λ s. record {
-        behind = s.server.ghost_name;
-        sits = s.seats.ghost_name;
-        first = first_of s.server.now;
-        opened = opened_of s.server.now;
-        schema = s.schema.now;
-        job = s.job.now;
+      behind = s.server.ghost_name;
+      sits = s.seats.ghost_name;
+      first = first_of s.server.now;
+      opened = opened_of s.server.now;
+      schema = s.schema.now;
+      job = s.job.now;
     } };
 
     ghost bounds = { λ c. bounds_of (script_of c.schema c.job) c.opened };

@@ -15,9 +15,7 @@ use ostore_address_space::{High, Low, Mapper, Mixed};
 use ostore_base::{MemDisk, OutOfMemory, Text};
 use ostore_client_core::GraphKind;
 use ostore_graph_model::{Txn, fresh_pages_are_empty};
-use ostore_job_text::{
-    Job, JobClient, parse_job, spelled_can_run, spelled_settings_are_lawful,
-};
+use ostore_job_text::{Job, JobClient, parse_job, spelled_can_run, spelled_settings_are_lawful};
 use ostore_object_ops::{are_built, is_of_ints};
 use ostore_page_service::SeqServer;
 use ostore_page_tags::fresh_pages;
@@ -49,17 +47,19 @@ fn fresh_server(alloc: Global, text: &[u8], schema: &Schema) -> Result<Server, O
     }
 }
 
-/// Whether all commands of a client's transactions are of those that run.
-fn are_built_txns(txns: &[Txn]) -> bool
-    ensures { IsTrue result
-        ↔ AllByRecursion (λ txn. AllByRecursion IsBuilt txn.commands) txns.now }
+/// Whether all commands of a transaction are of those that run.
+fn is_built_txn(txn: &Txn) -> bool
+    ensures { IsTrue result ↔ AllByRecursion IsBuilt txn.now.commands }
 {
-    for txn in txns {
-        if !are_built(txn.commands.items()) {
-            return false;
-        }
-    }
-    true
+    are_built(txn.commands.items())
+}
+
+/// Whether all commands of a client's transactions are.
+fn is_built_client(client: &JobClient) -> bool
+    ensures { IsTrue result
+        ↔ AllByRecursion (λ txn. AllByRecursion IsBuilt txn.commands) client.now.txns }
+{
+    client.txns.items().iter().all(is_built_txn)
 }
 
 /// Whether all commands of all clients are.
@@ -67,12 +67,7 @@ fn are_built_clients(clients: &[JobClient]) -> bool
     ensures { IsTrue result ↔ AllByRecursion (λ client.
         AllByRecursion (λ txn. AllByRecursion IsBuilt txn.commands) client.txns) clients.now }
 {
-    for client in clients {
-        if !are_built_txns(client.txns.items()) {
-            return false;
-        }
-    }
-    true
+    clients.iter().all(is_built_client)
 }
 
 /// The report of a job of a text on a fresh database, whose tail tells the fetches where that is asked. None for a text of
@@ -85,7 +80,9 @@ fn report_of<M: Mapper>(alloc: Global, mapper: &M, text: &[u8], fetches: bool) -
     }
     spelled_can_run();
     spelled_settings_are_lawful();
-    let mut server = fresh_server(alloc, PART, &schema).ok()?;
+    let Ok(mut server) = fresh_server(alloc, PART, &schema) else {
+        return None;
+    };
     let run = run_turns(alloc, &schema, &job, &mut server, mapper).ok()?;
     let told = if fetches { run.tail.fetches } else { None };
     let tail = Tail {
@@ -105,8 +102,10 @@ fn is_text(text: Option<Text>, wanted: &[u8]) -> bool {
 
 #[test]
 fn a_client_that_meets_another_gives_up_on_its_last_try(rt: HostRuntime) -> Result<(), Fail> {
-    let job = b"client a\nbegin\nnew $p Part 1\ncommit\nclient b tries 1\nbegin\nnew $p Part 1\ncommit\nturns a*2 b*2\n";
-    let wanted = b"a.1 commit 1\n  1.1\nb.1 gaveup 1 busy 0 0000000100010001 0000000100010001\ncommits 1\nfetches 2\n";
+    let job =
+        b"client a\nbegin\nnew $p Part 1\ncommit\nclient b tries 1\nbegin\nnew $p Part 1\ncommit\nturns a*2 b*2\n";
+    let wanted =
+        b"a.1 commit 1\n  1.1\nb.1 gaveup 1 busy 0 0000000100010001 0000000100010001\ncommits 1\nfetches 2\n";
     let text = report_of(rt.alloc(), &Low, job, true);
     assert!(rt; is_text(text, wanted));
     Ok(())
@@ -127,8 +126,10 @@ fn a_cache_and_frames_of_one_page_are_full(rt: HostRuntime) -> Result<(), Fail> 
 #[test]
 fn three_clients_give_one_report_under_all_mappers(rt: HostRuntime) -> Result<(), Fail> {
     let alloc = rt.alloc();
-    let job = b"client a\nbegin\nnew $p Part 1\nset $p.id 1\ncommit\nread\nnew $p Part 1\ncommit\nclient b\nbegin\nnew $p Part 1\nset $p.id 2\nget $p.id\ncommit\nclient c\nbegin\nnew $p Part 2\nabort\nbegin\nnew $p Part 1\ncommit\n";
-    let wanted = b"a.1 commit 1\n  1.1\n  ok\na.2 read 1\n  refused 16 ReadOnly\nb.1 commit 2 tries 2\n  1.2\n  ok\n  2\nc.1 abort tries 4\nc.2 commit 3\n  1.3\ncommits 3\n";
+    let job =
+        b"client a\nbegin\nnew $p Part 1\nset $p.id 1\ncommit\nread\nnew $p Part 1\ncommit\nclient b\nbegin\nnew $p Part 1\nset $p.id 2\nget $p.id\ncommit\nclient c\nbegin\nnew $p Part 2\nabort\nbegin\nnew $p Part 1\ncommit\n";
+    let wanted =
+        b"a.1 commit 1\n  1.1\n  ok\na.2 read 1\n  refused 16 ReadOnly\nb.1 commit 2 tries 2\n  1.2\n  ok\n  2\nc.1 abort tries 4\nc.2 commit 3\n  1.3\ncommits 3\n";
     let low = report_of(alloc, &Low, job, false);
     assert!(rt; is_text(low, wanted));
     let high = report_of(alloc, &High, job, false);

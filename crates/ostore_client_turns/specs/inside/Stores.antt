@@ -1,6 +1,6 @@
 -- The clients of a job at a server: where each of them is, and what its service holds for it.
 use Rattle.std.specs.Prelude.{◌≡◌, ◌<◌, ◌≤◌, ◌+◌, ℕ, true, false, nat_lt, if◌then◌else◌, List, [], length, map, Option, Some, None, All}
-use Rattle.std.specs.List.{slice_get, AllByRecursion}
+use Rattle.std.specs.List.{slice_get}
 use Rattle.std.specs.Borrow.{GName}
 use Rattle.ostore_base.specs.Limits.{most_clients}
 use Rattle.ostore_base.specs.declared.page.PageImage.{PageImage}

@@ -50,12 +50,12 @@ returns g c =
     let openeds = c.in_ok-ran.ensures.opened ∙ ap opened_of same in
     let served : IsServed graph_meaning script (first_of server) (opened_of server) (λ n. (told n).mine.records) after.commits server.last = (c.in_ok-ran.ensures.ready name).served in
     let served_first : IsServed graph_meaning script first opened (λ n. (told n).mine.records) after.commits server.last =
-        subst (λ (n : ℕ). IsServed graph_meaning script n opened (λ n. (told n).mine.records) after.commits server.last) firsts
-        (subst (λ (pages : List PageImage). IsServed graph_meaning script (first_of server) pages (λ n. (told n).mine.records) after.commits server.last) openeds served) in
+    subst (λ (n : ℕ). IsServed graph_meaning script n opened (λ n. (told n).mine.records) after.commits server.last) firsts
+    (subst (λ (pages : List PageImage). IsServed graph_meaning script (first_of server) pages (λ n. (told n).mine.records) after.commits server.last) openeds served) in
     let tail : Tail = record { disk_fault_after = None; commits = c.number.result; fetches = Some c.fetches_of.result } in
     let sat : c.deref.result.now ≡ new.seats.now.items = search rules in
     let fetches = fetches_are c.args.job.now new.seats.now.items c.fetches_of.result c.in_ok-ran.ensures.long
-        (c.fetches_of.ensures ∙ ap (λ (seats : List (Seat g.row.M.Denot)). min (sum_by fetches_in seats) (2 ^ 64 - 1)) sat) in
+    (c.fetches_of.ensures ∙ ap (λ (seats : List (Seat g.row.M.Denot)). min (sum_by fetches_in seats) (2 ^ 64 - 1)) sat) in
     let reached : c.number.result ≡ (journal_of server).number = search rules in
     let tail_is : IsTailOf c.args.job.now after.commits tail = record {
       fetches = c.fetches_of.result;
@@ -63,11 +63,11 @@ returns g c =
       tail_is = ap (λ (n : ℕ). (let t : Tail = record { disk_fault_after = None; commits = n; fetches = Some c.fetches_of.result } in t)) reached;
     } in
     let run =
-        run_of c.history_is_legal.ensures c.results_are_records.ensures c.args.schema.now c.args.job.now first opened server.last (moment_at g.D.Disk.faults began name (seats_in c.in_ok-seats.seats.items)) after c.in_ok-ran.ran told
-        c.requires.job.few (moment_first g.D.Disk.faults began c.args.schema.now c.args.job.now (seats_in c.in_ok-seats.seats.items) fresh empty name first (ap (λ (s : _). (journal_of s).number) same ∙ c.requires.number))
-        c.in_ok-ran.ensures.run c.in_ok-ran.ensures.sound
-        (subst (λ (pages : List PageImage). AreBounded (bounds_of script pages) c.args.job.now.clients c.in_ok-ran.ran.results) (ap opened_of same) c.in_ok-ran.ensures.bounded)
-        (λ client. refl) served_first tail tail_is in
+    run_of c.history_is_legal.ensures c.results_are_records.ensures c.args.schema.now c.args.job.now first opened server.last (moment_at g.D.Disk.faults began name (seats_in c.in_ok-seats.seats.items)) after c.in_ok-ran.ran told
+    c.requires.job.few (moment_first g.D.Disk.faults began c.args.schema.now c.args.job.now (seats_in c.in_ok-seats.seats.items) fresh empty name first (ap (λ (s : _). (journal_of s).number) same ∙ c.requires.number))
+    c.in_ok-ran.ensures.run c.in_ok-ran.ensures.sound
+    (subst (λ (pages : List PageImage). AreBounded (bounds_of script pages) c.args.job.now.clients c.in_ok-ran.ran.results) (ap opened_of same) c.in_ok-ran.ensures.bounded)
+    (λ client. refl) served_first tail tail_is in
     let last : server.last ≡ c.server-1.given.0.last = search rules in
     let ran : Run = record { results = c.in_ok-ran.ran.results; tail = tail } in
     subst (λ (pages : List PageImage). IsRunOf c.args.schema.now c.args.job.now first opened pages ran) last run

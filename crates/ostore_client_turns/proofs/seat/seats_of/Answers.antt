@@ -1,6 +1,4 @@
-use Rattle.std.proofs.Common.{◌≡◌, ◌<◌, ◌∷◌, ◌++◌, [], List, length, Some, ◌∙◌, sym, subst, ap, arith, rules, ℕ, ◌+◌}
-use Rattle.std.specs.List.{slice_get}
-use Rattle.ostore_job_text.specs.declared.job.JobClient.{JobClient}
+use Rattle.std.proofs.Common.{◌≡◌, ◌<◌, ◌∷◌, ◌++◌, [], List, length, ◌∙◌, sym, subst, ap, arith, rules, ℕ, ◌+◌}
 use Rattle.ostore_client_turns.specs.declared.seat.Seat.{Seat}
 use Rattle.ostore_client_turns.specs.inside.AtServer.{IsFreshAt}
 use Rattle.ostore_client_turns.specs.inside.Seats.{view_of}

@@ -8,7 +8,7 @@ pub index_mut-seat-requires : goal.index_mut-seat-requires
 index_mut-seat-requires g c =
     let store = c.args.self.now in
     let within : c.from-number.result < length store.seats.now.items =
-        seat_index g.D.Disk.faults store.server.now store.server.ghost_name store.schema.now store.job.now store.seats.now.items c.from-number.result c.args.client.0 c.args.txn.now c.from-number.ensures c.requires.ready.0 c.requires.next in
+    seat_index g.D.Disk.faults store.server.now store.server.ghost_name store.schema.now store.job.now store.seats.now.items c.from-number.result c.args.client.0 c.args.txn.now c.from-number.ensures c.requires.ready.0 c.requires.next in
     omega arith
 
 pub take_turn-requires-clause-number : goal.take_turn-requires-clause-number
