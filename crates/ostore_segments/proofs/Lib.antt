@@ -13,6 +13,8 @@ pub mod GrowLaws
 pub mod RoomLaws
 pub mod AddingLaws
 pub mod MakeLaws
+pub mod ViewLaws
+pub mod NamingLaws
 pub mod RootLaws
 pub mod CellPlaceLaws
 mod TestLaws

@@ -51,7 +51,7 @@ empty_chain : (n : ℕ) (header : ℕ → PageHeader) (first segment : ℕ) (cha
 empty_chain n header first segment [] list none = refl
 empty_chain n header first segment (p ∷ pages) list none = let fine = list.pages 0 p (omega arith) in let low = fine.0 in let at = list.walk.0 in absurd (omega arith)
 
-some_chain : (n : ℕ) (header : ℕ → PageHeader) (first segment : ℕ) (chain : List ℕ) → IsChain n header first segment chain → first ≢ 0 → chain ≢ []
+pub some_chain : (n : ℕ) (header : ℕ → PageHeader) (first segment : ℕ) (chain : List ℕ) → IsChain n header first segment chain → first ≢ 0 → chain ≢ []
 some_chain n header first segment chain list some empty = some (subst (IsWalk header first) empty list.walk)
 
 pub ends_none : (list : List PageImage) (segment need : ℕ) → IsAllocated list → IsSegment segment → first_of list segment ≡ 0 → EndsFull list segment need
@@ -67,7 +67,7 @@ pub record AtLast (list : List PageImage) (segment first : ℕ) (header : PageHe
   pub at : first_of list segment ≡ first
   pub seen : header_at list first ≡ header
 
-last_is : (list : List PageImage) (segment first : ℕ) (header : PageHeader) (it : AtLast list segment first header) → header.last_page ≡ last_of (its_chain list segment it.fine it.within).0
+pub last_is : (list : List PageImage) (segment first : ℕ) (header : PageHeader) (it : AtLast list segment first header) → header.last_page ≡ last_of (its_chain list segment it.fine it.within).0
 last_is list segment first header it =
     ap (λ (h : PageHeader). h.last_page) (sym it.seen) ∙ ap (λ (p : ℕ). (header_at list p).last_page) (sym it.at) ∙ (its_chain list segment it.fine it.within).1.last
 

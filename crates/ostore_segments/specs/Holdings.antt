@@ -1,6 +1,6 @@
 -- What a holder of pages stands for. It knows only the pages that it has looked at, so it may stand for several
 -- lists of pages: for each pair of the list with which it began and the one that it has made of it.
-use Rattle.std.specs.Prelude.{◌≡◌, ℕ, ◌<◌, Bool, List, length, Option, Some}
+use Rattle.std.specs.Prelude.{◌≡◌, ◌⊎◌, ℕ, ◌<◌, Bool, List, length, Option, Some}
 use Rattle.std.specs.Borrow.{GName}
 use Rattle.ostore_base.specs.declared.page.PageImage.{PageImage}
 
@@ -55,3 +55,23 @@ alone pages = record {
 -- the list is the same, and is so
 abbrev pub Sees : (List PageImage → Type 0) → List PageImage → List PageImage → Type 0
 Sees P old new = (new ≡ old) × P old
+
+-- ---- pages that come into view
+
+-- each page that is in view afterwards was so before, or is one of these
+pub record BringsOnly (before after : PagesHeld) (named : ℕ → Type 0) : Type 0 where
+  pub views : (page : ℕ) → after.in_view page → before.in_view page ⊎ named page
+
+-- each page that is in view afterwards was so before, or is one of these on each list for which the holder may then stand
+pub record BringsOnEach (before after : PagesHeld) (named : List PageImage → ℕ → Type 0) : Type 0 where
+  pub each : (begun list : List PageImage) → after.may_be begun list → BringsOnly before after (named list)
+
+-- the holder stands for the lists for which it stood, and no page came into view
+pub record Rests (before after : PagesHeld) : Type 0 where
+  pub lists : Becomes before after (λ old new. new ≡ old)
+  pub views : (page : ℕ) → after.in_view page → before.in_view page
+
+-- Calls were broken off. Each list for which the holder may then stand has come from one for which it might stand before,
+-- and on that one the pages that came into view are these.
+abbrev pub BreaksOff : PagesHeld → PagesHeld → (List PageImage → ℕ → Type 0) → Type 0
+BreaksOff before after named = Becomes before after (λ old new. BringsOnly before after (named old))

@@ -5,6 +5,7 @@ pub mod Edits
 pub mod Room
 pub mod Serials
 pub mod Growth
+pub mod Naming
 pub mod Placing
 pub mod Adding
 pub mod Making

@@ -4,7 +4,7 @@ ghost use Rattle.std.specs.Prelude.{◌≡◌, ◌<◌, ◌+◌, ◌*◌, ◌%�
 ghost use Rattle.ostore_base.specs.declared.page.TheConstants.{PAGE_SIZE};
 ghost use Rattle.ostore_page_tags.specs.Limits.{most_pages};
 ghost use Rattle.ostore_page_tags.specs.PageLists.{with_bytes};
-ghost use Rattle.ostore_segments.specs.Holdings.{Stands, Becomes};
+ghost use Rattle.ostore_segments.specs.Holdings.{Stands, Becomes, BringsOnly, Rests};
 ghost use Rattle.ostore_segments.specs.Edits.{HasBytesInCell};
 
 use crate::pages::Pages;
@@ -27,7 +27,7 @@ pub trait CellPages: Pages {
         ensures { (Self.held self.now).home result ≡ Some (page.0 * PAGE_SIZE + at) };
 
     /// Replaces bytes of a live cell that are none of its pointers'. The cell begins at `offset`, and the bytes
-    /// at a place that counts from the cell's start.
+    /// at a place that counts from the cell's start. The page may come into view.
     fn edit_cell(
         &mut self,
         page: PageNo,
@@ -41,6 +41,10 @@ pub trait CellPages: Pages {
         ensures lists { OnOk result (Becomes (Self.held self.old) (Self.held self.new)
             (λ old new. new ≡ with_bytes old page.0 (offset + at) bytes.now)) }
         ensures passes { OnOk result (Self.passes self.old self.new) }
+        ensures brings { OnOk result (BringsOnly (Self.held self.old) (Self.held self.new)
+            (λ named. named ≡ page.0)) }
         ensures fails { IfErr result (λ fault. Self.fails self.old fault self.new) }
+        ensures stays { IfErr result (λ fault. Self.stays fault
+            → Rests (Self.held self.old) (Self.held self.new)) }
         ensures told { Self.told self.new ≡ Self.told self.old };
 }

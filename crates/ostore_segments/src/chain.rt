@@ -3,8 +3,9 @@
 ghost use Rattle.std.specs.Prelude.{◌≡◌, map, IfOk, OnOk, IfErr, ⊤};
 ghost use Rattle.ostore_page_tags.specs.PageChains.{IsSegment};
 ghost use Rattle.ostore_page_tags.specs.Allocated.{IsAllocated, HasChain};
-ghost use Rattle.ostore_segments.specs.Holdings.{Stands, Becomes, Sees};
+ghost use Rattle.ostore_segments.specs.Holdings.{Stands, Becomes, Sees, BringsOnEach, BreaksOff};
 ghost use Rattle.ostore_segments.specs.Listing.{MatchPagesOfFault};
+ghost use Rattle.ostore_segments.specs.Naming.{IsNamedIn};
 
 use crate::fields::{first_of, header_at};
 use crate::pages::Pages;
@@ -34,6 +35,11 @@ pub fn pages_of<P: Pages>(
     ensures passes { OnOk result (P.passes pages.old pages.new) }
     ensures fails { IfErr result (λ why. MatchPagesOfFault why
         (λ fault. P.fails pages.old fault pages.new) (P.passes pages.old pages.new)) }
+    ensures brings { OnOk result (BringsOnEach (P.held pages.old) (P.held pages.new)
+        (λ list. IsNamedIn list segment)) }
+    ensures stays { IfErr result (λ why. MatchPagesOfFault why
+        (λ fault. P.stays fault → BreaksOff (P.held pages.old) (P.held pages.new)
+        (λ list. IsNamedIn list segment)) ⊤) }
     ensures memory { IfErr result (λ why. MatchPagesOfFault why (λ _. ⊤)
         (Becomes (P.held pages.old) (P.held pages.new) (λ old new. new ≡ old))) }
     ensures told { P.told pages.new ≡ P.told pages.old }

@@ -3,9 +3,10 @@
 ghost use Rattle.std.specs.Prelude.{◌≡◌, ◌+◌, ◌*◌, ◌-◌, true, OnOk, IfOk, IfErr};
 ghost use Rattle.byteorder.specs.Endian.{little_bytes};
 ghost use Rattle.ostore_page_tags.specs.PageLists.{header_at, first_of, with_bytes};
+ghost use Rattle.ostore_page_tags.specs.declared.layout.TheConstants.{FRONT_PAGE};
 ghost use Rattle.ostore_page_tags.specs.PageChains.{IsSegment};
 ghost use Rattle.ostore_page_tags.specs.Allocated.{IsAllocated};
-ghost use Rattle.ostore_segments.specs.Holdings.{Stands, Becomes, Sees};
+ghost use Rattle.ostore_segments.specs.Holdings.{Stands, Becomes, Sees, BringsOnly, Rests};
 ghost use Rattle.ostore_segments.specs.Edits.{CanPut};
 ghost use Rattle.ostore_segments.specs.inside.Fields.{HasHeaderAt};
 
@@ -31,7 +32,11 @@ pub(crate) fn header_at<P: Pages>(pages: &mut P, page: PageNo) -> Result<PageHea
     ensures seen { IfOk result (λ header. Becomes (P.held pages.old) (P.held pages.new)
         (Sees (λ list. header_at list page.0 ≡ header))) }
     ensures passes { OnOk result (P.passes pages.old pages.new) }
+    ensures brings { OnOk result (BringsOnly (P.held pages.old) (P.held pages.new)
+        (λ named. named ≡ page.0)) }
     ensures fails { IfErr result (λ fault. P.fails pages.old fault pages.new) }
+    ensures stays { IfErr result (λ fault. P.stays fault
+        → Rests (P.held pages.old) (P.held pages.new)) }
     ensures told { P.told pages.new ≡ P.told pages.old }
 {
     pages.enter(page)?;
@@ -45,7 +50,11 @@ pub(crate) fn first_of<P: Pages>(pages: &mut P, segment: u8) -> Result<u32, P::F
     ensures seen { IfOk result (λ first. Becomes (P.held pages.old) (P.held pages.new)
         (Sees (λ list. first_of list segment ≡ first))) }
     ensures passes { OnOk result (P.passes pages.old pages.new) }
+    ensures brings { OnOk result (BringsOnly (P.held pages.old) (P.held pages.new)
+        (λ named. named ≡ FRONT_PAGE)) }
     ensures fails { IfErr result (λ fault. P.fails pages.old fault pages.new) }
+    ensures stays { IfErr result (λ fault. P.stays fault
+        → Rests (P.held pages.old) (P.held pages.new)) }
     ensures told { P.told pages.new ≡ P.told pages.old }
 {
     pages.enter(FRONT)?;
@@ -65,7 +74,11 @@ pub(crate) fn put_number<P: Pages>(
     ensures lists { OnOk result (Becomes (P.held pages.old) (P.held pages.new)
         (λ old new. new ≡ with_bytes old page.0 at (little_bytes 4 value))) }
     ensures passes { OnOk result (P.passes pages.old pages.new) }
+    ensures brings { OnOk result (BringsOnly (P.held pages.old) (P.held pages.new)
+        (λ named. named ≡ page.0)) }
     ensures fails { IfErr result (λ fault. P.fails pages.old fault pages.new) }
+    ensures stays { IfErr result (λ fault. P.stays fault
+        → Rests (P.held pages.old) (P.held pages.new)) }
     ensures told { P.told pages.new ≡ P.told pages.old }
 {
     pages.edit(page, at, &value.to_le_bytes())

@@ -3,9 +3,10 @@
 ghost use Rattle.std.specs.Prelude.{◌≡◌, ◌≢◌, [], true, OnOk, IfOk, MatchOption, IfErr};
 ghost use Rattle.ostore_page_tags.specs.PageChains.{IsSegment};
 ghost use Rattle.ostore_page_tags.specs.Allocated.{IsAllocated, HasFree};
-ghost use Rattle.ostore_segments.specs.Holdings.{Stands, Becomes};
+ghost use Rattle.ostore_segments.specs.Holdings.{Stands, Becomes, BringsOnly, BringsOnEach, BreaksOff};
 ghost use Rattle.ostore_segments.specs.Growth.{Grows};
-ghost use Rattle.ostore_segments.specs.inside.Fields.{BeginsWith, BeginsBeside, Takes};
+ghost use Rattle.ostore_segments.specs.Naming.{IsNamedIn, IsWantedIn};
+ghost use Rattle.ostore_segments.specs.inside.Fields.{BeginsWith, BeginsBeside, Takes, IsFrontOr};
 
 use crate::fields::{FRONT, first_of, first_place, header_at, put_number};
 use crate::pages::Pages;
@@ -23,7 +24,11 @@ fn take_free<P: Pages>(pages: &mut P, segment: u8, page: PageNo) -> Result<(), P
     ensures lists { OnOk result (Becomes (P.held pages.old) (P.held pages.new)
         (λ old new. Takes old new segment page.0)) }
     ensures passes { OnOk result (P.passes pages.old pages.new) }
+    ensures brings { OnOk result (BringsOnly (P.held pages.old) (P.held pages.new)
+        (IsFrontOr page.0)) }
     ensures fails { IfErr result (λ fault. P.fails pages.old fault pages.new) }
+    ensures stays { IfErr result (λ fault. P.stays fault
+        → BreaksOff (P.held pages.old) (P.held pages.new) (λ list. IsFrontOr page.0)) }
     ensures told { P.told pages.new ≡ P.told pages.old }
 {
     let rest = header_at(pages, page)?.next;
@@ -40,7 +45,11 @@ fn begin_chain<P: Pages>(pages: &mut P, segment: u8, page: PageNo) -> Result<(),
     ensures lists { OnOk result (Becomes (P.held pages.old) (P.held pages.new)
         (λ old new. Grows old new segment page.0)) }
     ensures passes { OnOk result (P.passes pages.old pages.new) }
+    ensures brings { OnOk result (BringsOnly (P.held pages.old) (P.held pages.new)
+        (IsFrontOr page.0)) }
     ensures fails { IfErr result (λ fault. P.fails pages.old fault pages.new) }
+    ensures stays { IfErr result (λ fault. P.stays fault
+        → BreaksOff (P.held pages.old) (P.held pages.new) (λ list. IsFrontOr page.0)) }
     ensures told { P.told pages.new ≡ P.told pages.old }
 {
     take_free(pages, segment, page)?;
@@ -62,7 +71,11 @@ fn extend_chain<P: Pages>(
     ensures lists { OnOk result (Becomes (P.held pages.old) (P.held pages.new)
         (λ old new. Grows old new segment page.0)) }
     ensures passes { OnOk result (P.passes pages.old pages.new) }
+    ensures brings { OnOk result (BringsOnEach (P.held pages.old) (P.held pages.new)
+        (λ list. IsNamedIn list segment)) }
     ensures fails { IfErr result (λ fault. P.fails pages.old fault pages.new) }
+    ensures stays { IfErr result (λ fault. P.stays fault
+        → BreaksOff (P.held pages.old) (P.held pages.new) (λ list. IsWantedIn list segment)) }
     ensures told { P.told pages.new ≡ P.told pages.old }
 {
     let last = PageNo(header_at(pages, first)?.last_page);
@@ -81,7 +94,11 @@ pub fn grow<P: Pages>(pages: &mut P, segment: u8) -> Result<Option<PageNo>, P::F
         (λ old new. MatchOption grown ((new ≡ old) × HasFree old [])
         (λ page. Grows old new segment page.0))) }
     ensures passes { OnOk result (P.passes pages.old pages.new) }
+    ensures brings { OnOk result (BringsOnEach (P.held pages.old) (P.held pages.new)
+        (λ list. IsNamedIn list segment)) }
     ensures fails { IfErr result (λ fault. P.fails pages.old fault pages.new) }
+    ensures stays { IfErr result (λ fault. P.stays fault
+        → BreaksOff (P.held pages.old) (P.held pages.new) (λ list. IsWantedIn list segment)) }
     ensures told { P.told pages.new ≡ P.told pages.old }
 {
     let head = header_at(pages, FRONT)?.next;

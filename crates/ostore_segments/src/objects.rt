@@ -4,10 +4,11 @@ ghost use Rattle.std.specs.Prelude.{◌≡◌, ◌+◌, true, Some, IfOk, MatchR
 ghost use Rattle.ostore_page_tags.specs.declared.layout.TheConstants.{ROW_BYTES};
 ghost use Rattle.ostore_page_tags.specs.PageChains.{IsSegment};
 ghost use Rattle.ostore_page_tags.specs.Allocated.{IsAllocated};
-ghost use Rattle.ostore_segments.specs.Holdings.{Stands, Becomes};
+ghost use Rattle.ostore_segments.specs.Holdings.{Stands, Becomes, BringsOnEach, BreaksOff};
 ghost use Rattle.ostore_segments.specs.Serials.{AreLeft, AreSpent};
 ghost use Rattle.ostore_segments.specs.Room.{IsPlaced};
 ghost use Rattle.ostore_segments.specs.Placing.{FindsNone};
+ghost use Rattle.ostore_segments.specs.Naming.{IsNamedIn, IsWantedIn};
 ghost use Rattle.ostore_segments.specs.Making.{IsObjectAsked, DrawsAndAdds, Makes};
 
 use crate::cells::add;
@@ -46,7 +47,11 @@ fn make_on<P: Pages>(
     ensures lists { IfOk result (λ made. Becomes (P.held pages.old) (P.held pages.new)
         (λ old new. DrawsAndAdds old new segment page.0 size code made.serial made.offset)) }
     ensures passes { OnOk result (P.passes pages.old pages.new) }
+    ensures brings { OnOk result (BringsOnEach (P.held pages.old) (P.held pages.new)
+        (λ list. IsNamedIn list segment)) }
     ensures fails { IfErr result (λ fault. P.fails pages.old fault pages.new) }
+    ensures stays { IfErr result (λ fault. P.stays fault
+        → BreaksOff (P.held pages.old) (P.held pages.new) (λ list. IsNamedIn list segment)) }
     ensures told { P.told pages.new ≡ P.told pages.old }
 {
     let serial = draw_serial(pages, segment)?;
@@ -80,7 +85,11 @@ pub fn make<P: Pages>(
     ensures why { IfOk result (λ made. MatchResult made (λ _. ⊤)
         (λ no. (no.segment ≡ segment) × (no.need ≡ size + ROW_BYTES))) }
     ensures passes { OnOk result (P.passes pages.old pages.new) }
+    ensures brings { OnOk result (BringsOnEach (P.held pages.old) (P.held pages.new)
+        (λ list. IsNamedIn list segment)) }
     ensures fails { IfErr result (λ fault. P.fails pages.old fault pages.new) }
+    ensures stays { IfErr result (λ fault. P.stays fault
+        → BreaksOff (P.held pages.old) (P.held pages.new) (λ list. IsWantedIn list segment)) }
     ensures told { P.told pages.new ≡ P.told pages.old }
 {
     match place(pages, segment, size)? {

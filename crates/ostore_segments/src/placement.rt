@@ -6,9 +6,10 @@ ghost use Rattle.ostore_page_tags.specs.declared.layout.TheConstants.{ROW_BYTES}
 ghost use Rattle.ostore_page_tags.specs.Limits.{largest_cell};
 ghost use Rattle.ostore_page_tags.specs.PageChains.{IsSegment};
 ghost use Rattle.ostore_page_tags.specs.Allocated.{IsAllocated};
-ghost use Rattle.ostore_segments.specs.Holdings.{Stands, Becomes, Sees};
+ghost use Rattle.ostore_segments.specs.Holdings.{Stands, Becomes, Sees, BringsOnEach, BreaksOff};
 ghost use Rattle.ostore_segments.specs.Room.{EndsWithRoom, EndsFull, IsFirstWithRoom, LacksRoomAll};
 ghost use Rattle.ostore_segments.specs.Placing.{Places, FindsNone};
+ghost use Rattle.ostore_segments.specs.Naming.{IsNamedIn, IsWantedIn};
 
 use crate::fields::{first_of, header_at};
 use crate::growth::grow;
@@ -50,7 +51,11 @@ fn last_with_room<P: Pages>(
         (Sees (λ list. MatchOption found (EndsFull list segment need)
         (λ page. EndsWithRoom list segment need page.0)))) }
     ensures passes { OnOk result (P.passes pages.old pages.new) }
+    ensures brings { OnOk result (BringsOnEach (P.held pages.old) (P.held pages.new)
+        (λ list. IsNamedIn list segment)) }
     ensures fails { IfErr result (λ fault. P.fails pages.old fault pages.new) }
+    ensures stays { IfErr result (λ fault. P.stays fault
+        → BreaksOff (P.held pages.old) (P.held pages.new) (λ list. IsNamedIn list segment)) }
     ensures told { P.told pages.new ≡ P.told pages.old }
 {
     let first = first_of(pages, segment)?;
@@ -78,7 +83,11 @@ fn first_with_room<P: Pages>(
         (Sees (λ list. MatchOption found (LacksRoomAll list segment need)
         (λ page. IsFirstWithRoom list segment need page.0)))) }
     ensures passes { OnOk result (P.passes pages.old pages.new) }
+    ensures brings { OnOk result (BringsOnEach (P.held pages.old) (P.held pages.new)
+        (λ list. IsNamedIn list segment)) }
     ensures fails { IfErr result (λ fault. P.fails pages.old fault pages.new) }
+    ensures stays { IfErr result (λ fault. P.stays fault
+        → BreaksOff (P.held pages.old) (P.held pages.new) (λ list. IsNamedIn list segment)) }
     ensures told { P.told pages.new ≡ P.told pages.old }
 {
     let mut page = first_of(pages, segment)?;
@@ -114,7 +123,11 @@ pub fn place<P: Pages>(
     ensures why { IfOk result (λ placed. MatchResult placed (λ _. ⊤)
         (λ no. (no.segment ≡ segment) × (no.need ≡ size + ROW_BYTES))) }
     ensures passes { OnOk result (P.passes pages.old pages.new) }
+    ensures brings { OnOk result (BringsOnEach (P.held pages.old) (P.held pages.new)
+        (λ list. IsNamedIn list segment)) }
     ensures fails { IfErr result (λ fault. P.fails pages.old fault pages.new) }
+    ensures stays { IfErr result (λ fault. P.stays fault
+        → BreaksOff (P.held pages.old) (P.held pages.new) (λ list. IsWantedIn list segment)) }
     ensures told { P.told pages.new ≡ P.told pages.old }
 {
     let need = size + ROW_BYTES;

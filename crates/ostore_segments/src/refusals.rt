@@ -53,6 +53,7 @@ struct RefusingPages<'a> {
 }
 
 impl<'a> Pages for RefusingPages<'a> {
+    ghost use Rattle.std.specs.Prelude.{⊤};
     ghost use Rattle.std.proofs.Common.{refl, ap, ◌∙◌};
     ghost use Rattle.ostore_segments.specs.Holdings.{alone};
     ghost use Rattle.ostore_segments.specs.SchemaCells.{told_of};
@@ -68,6 +69,8 @@ impl<'a> Pages for RefusingPages<'a> {
     ghost fails = { λ earlier refusal later.
         (later.refusals.count ≡ one_more earlier.refusals.count)
         × (refusal.count ≡ later.refusals.count) };
+
+    ghost stays = { λ refusal. ⊤ };
 
     fn enter(&mut self, page: PageNo) -> Result<(), Refusal> {
         self.refusals.ask()?;

@@ -91,6 +91,8 @@ impl<'a> Pages for SchemaPages<'a> {
 
     ghost fails = { λ earlier fault later. ⊥ };
 
+    ghost stays = { λ fault. ⊥ };
+
     fn enter(&mut self, _page: PageNo) -> Result<(), Infallible> {
         Ok(())
     }

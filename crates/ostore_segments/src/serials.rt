@@ -3,8 +3,9 @@
 ghost use Rattle.std.specs.Prelude.{◌≡◌, ◌↔◌, true, IsTrue, IfOk, OnOk, IfErr};
 ghost use Rattle.ostore_page_tags.specs.PageChains.{IsSegment};
 ghost use Rattle.ostore_page_tags.specs.Allocated.{IsAllocated};
-ghost use Rattle.ostore_segments.specs.Holdings.{Stands, Becomes, Sees};
+ghost use Rattle.ostore_segments.specs.Holdings.{Stands, Becomes, Sees, BringsOnEach, BreaksOff};
 ghost use Rattle.ostore_segments.specs.Serials.{AreSpent, AreLeft, Draws};
+ghost use Rattle.ostore_segments.specs.Naming.{IsNamedIn};
 
 use crate::fields::{first_of, header_at, put_number};
 use crate::pages::Pages;
@@ -18,7 +19,11 @@ pub fn serials_spent<P: Pages>(pages: &mut P, segment: u8) -> Result<bool, P::Fa
     ensures lists { IfOk result (λ spent. Becomes (P.held pages.old) (P.held pages.new)
         (Sees (λ list. IsTrue spent ↔ AreSpent list segment))) }
     ensures passes { OnOk result (P.passes pages.old pages.new) }
+    ensures brings { OnOk result (BringsOnEach (P.held pages.old) (P.held pages.new)
+        (λ list. IsNamedIn list segment)) }
     ensures fails { IfErr result (λ fault. P.fails pages.old fault pages.new) }
+    ensures stays { IfErr result (λ fault. P.stays fault
+        → BreaksOff (P.held pages.old) (P.held pages.new) (λ list. IsNamedIn list segment)) }
     ensures told { P.told pages.new ≡ P.told pages.old }
 {
     let first = first_of(pages, segment)?;
@@ -38,7 +43,11 @@ pub fn draw_serial<P: Pages>(pages: &mut P, segment: u8) -> Result<u32, P::Fault
     ensures lists { IfOk result (λ serial. Becomes (P.held pages.old) (P.held pages.new)
         (λ old new. Draws old new segment serial)) }
     ensures passes { OnOk result (P.passes pages.old pages.new) }
+    ensures brings { OnOk result (BringsOnEach (P.held pages.old) (P.held pages.new)
+        (λ list. IsNamedIn list segment)) }
     ensures fails { IfErr result (λ fault. P.fails pages.old fault pages.new) }
+    ensures stays { IfErr result (λ fault. P.stays fault
+        → BreaksOff (P.held pages.old) (P.held pages.new) (λ list. IsNamedIn list segment)) }
     ensures told { P.told pages.new ≡ P.told pages.old }
 {
     let first = PageNo(first_of(pages, segment)?);

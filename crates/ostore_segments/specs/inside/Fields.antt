@@ -1,5 +1,5 @@
 -- Headers with one field changed, and a page that was taken off the free list.
-use Rattle.std.specs.Prelude.{◌≡◌, ◌≢◌, ℕ, List, [], ◌∷◌, ◌++◌, length}
+use Rattle.std.specs.Prelude.{◌≡◌, ◌≢◌, ◌⊎◌, ℕ, List, [], ◌∷◌, ◌++◌, length}
 use Rattle.byteorder.specs.Endian.{little_bytes}
 use Rattle.ostore_base.specs.declared.page.PageImage.{PageImage}
 use Rattle.ostore_base.specs.declared.page.TheConstants.{PAGE_SIZE}
@@ -62,3 +62,7 @@ pub record Takes (old new : List PageImage) (segment page : ℕ) : Type 0 where
 abbrev pub row_of_live : ℕ → ℕ → ℕ → List ℕ
 row_of_live offset code serial =
     little_bytes 2 offset ++ code ∷ LIVE_STATE ∷ [] ++ little_bytes 4 serial
+
+-- page 0, or this page
+abbrev pub IsFrontOr : ℕ → ℕ → Type 0
+IsFrontOr page named = (named ≡ FRONT_PAGE) ⊎ (named ≡ page)

@@ -6,6 +6,7 @@ use Rattle.ostore_segments.specs.Adding.{Adds}
 use Rattle.ostore_segments.specs.inside.Fields.{row_of_live}
 use Rattle.ostore_segments.proofs.ListSteps.{Stands-seen, Stands-weaker, Stands-now, Stands-edited, Becomes-weaker, Becomes-changed, Becomes-edit}
 use Rattle.ostore_segments.proofs.AddingLaws.{can_add, room_headed, add_fits, add_edit_one, add_edit_two, add_adds}
+use Rattle.ostore_segments.proofs.ViewLaws.{brings_then, rests_breaks, breaks_then}
 use Rattle.ostore_segments.proofs.cells.add.Goals as goal
 
 pub header_at-requires : goal.header_at-requires
@@ -66,3 +67,21 @@ returns-in_err-edit-2-clause-fails g c =
 
 pub returns-clause-passes : goal.returns-clause-passes
 returns-clause-passes g c = g.met.P.Pages.passes_on _ _ _ (g.met.P.Pages.passes_on _ _ _ c.in_ok-header.ensures.passes c.in_ok-edit.ensures.passes) c.in_ok-edit-2.ensures.passes
+
+pub returns-clause-brings : goal.returns-clause-brings
+returns-clause-brings g c = brings_then (brings_then c.in_ok-header.ensures.brings c.in_ok-edit.ensures.brings) c.in_ok-edit-2.ensures.brings
+
+pub returns-in_err-header-clause-stays : goal.returns-in_err-header-clause-stays
+returns-in_err-header-clause-stays g c =
+    let failed = rests_breaks {N = λ list named. named ≡ c.args.page.0} c.in_err-header.ensures.stays in
+    search rules
+
+pub returns-in_err-edit-clause-stays : goal.returns-in_err-edit-clause-stays
+returns-in_err-edit-clause-stays g c =
+    let failed = breaks_then c.in_ok-header.ensures.seen c.in_ok-header.ensures.brings (rests_breaks c.in_err-edit.ensures.stays) in
+    search rules
+
+pub returns-in_err-edit-2-clause-stays : goal.returns-in_err-edit-2-clause-stays
+returns-in_err-edit-2-clause-stays g c =
+    let failed = breaks_then c.in_ok-header.ensures.seen c.in_ok-header.ensures.brings (breaks_then c.in_ok-edit.ensures.lists c.in_ok-edit.ensures.brings (rests_breaks c.in_err-edit-2.ensures.stays)) in
+    search rules

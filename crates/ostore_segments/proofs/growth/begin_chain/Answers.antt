@@ -1,7 +1,8 @@
-use Rattle.std.proofs.Common.{rules}
+use Rattle.std.proofs.Common.{rules, inl, inr}
 use Rattle.std.proofs.lemmas.Result.{on_ok_weaker, IfErr-weaker}
 use Rattle.ostore_segments.proofs.ListSteps.{Stands-weaker, Stands-after, Becomes-after, Becomes-edit, Becomes-stands}
 use Rattle.ostore_segments.proofs.GrowLaws.{begin_edit, begin_edit_last, begin_grows}
+use Rattle.ostore_segments.proofs.ViewLaws.{brings_weaker, brings_then, rests_breaks, breaks_then}
 use Rattle.ostore_segments.proofs.growth.begin_chain.Goals as goal
 
 pub take_free-requires-clause-stands : goal.take_free-requires-clause-stands
@@ -39,3 +40,21 @@ returns-clause-passes g c =
 pub returns-clause-fails : goal.returns-clause-fails
 returns-clause-fails g c =
     IfErr-weaker c.put_number-2.result _ _ (λ fault failed. g.met.P.Pages.fails_later _ _ _ fault (g.met.P.Pages.passes_on _ _ _ c.in_ok-take_free.ensures.passes c.in_ok-put_number.ensures.passes) failed) c.put_number-2.ensures.fails
+
+pub returns-clause-brings : goal.returns-clause-brings
+returns-clause-brings g c =
+    on_ok_weaker c.put_number-2.result
+    (λ last. brings_then (brings_then c.in_ok-take_free.ensures.brings (brings_weaker (λ named same. inl same) c.in_ok-put_number.ensures.brings)) (brings_weaker (λ named same. inr same) last))
+    c.put_number-2.ensures.brings
+
+pub returns-in_err-put_number-clause-stays : goal.returns-in_err-put_number-clause-stays
+returns-in_err-put_number-clause-stays g c =
+    let failed = breaks_then c.in_ok-take_free.ensures.lists c.in_ok-take_free.ensures.brings (rests_breaks c.in_err-put_number.ensures.stays) in
+    search rules
+
+pub returns-clause-stays : goal.returns-clause-stays
+returns-clause-stays g c =
+    IfErr-weaker c.put_number-2.result _ _
+    (λ fault rests. breaks_then c.in_ok-take_free.ensures.lists c.in_ok-take_free.ensures.brings
+    (breaks_then c.in_ok-put_number.ensures.lists (brings_weaker (λ named same. inl same) c.in_ok-put_number.ensures.brings) (rests_breaks rests)))
+    c.put_number-2.ensures.stays

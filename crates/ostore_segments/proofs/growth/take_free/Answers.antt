@@ -1,10 +1,12 @@
-use Rattle.std.proofs.Common.{rules, List, sym, subst, arith}
+use Rattle.std.proofs.Common.{◌≡◌, ℕ, rules, List, sym, subst, arith, inl, inr}
 use Rattle.std.proofs.lemmas.Result.{on_ok_weaker, IfErr-weaker}
 use Rattle.ostore_base.specs.declared.page.PageImage.{PageImage}
-use Rattle.ostore_segments.specs.inside.Fields.{Takes}
+use Rattle.ostore_segments.specs.Holdings.{PagesHeld, BringsOnly}
+use Rattle.ostore_segments.specs.inside.Fields.{Takes, IsFrontOr}
 use Rattle.ostore_segments.proofs.ListSteps.{Stands-seen, Stands-weaker, Stands-edited, Becomes-edit, Becomes-changed}
 use Rattle.ostore_segments.proofs.AllocatedLaws.{head_headed}
 use Rattle.ostore_segments.proofs.TakeLaws.{can_take, takes, edit_one, edit_two, edit_three}
+use Rattle.ostore_segments.proofs.ViewLaws.{brings_weaker, brings_then, rests_breaks, breaks_then}
 use Rattle.ostore_segments.proofs.growth.take_free.Goals as goal
 
 pub header_at-requires : goal.header_at-requires
@@ -53,3 +55,40 @@ returns-clause-passes g c =
 pub returns-clause-fails : goal.returns-clause-fails
 returns-clause-fails g c =
     IfErr-weaker c.put_number-2.result _ _ (λ fault failed. g.met.P.Pages.fails_later _ _ _ fault (g.met.P.Pages.passes_on _ _ _ (g.met.P.Pages.passes_on _ _ _ c.in_ok-rest.ensures.passes c.in_ok-put_number.ensures.passes) c.in_ok-edit.ensures.passes) failed) c.put_number-2.ensures.fails
+
+-- the pages so far
+read : {a b : PagesHeld} (page : ℕ) → BringsOnly a b (λ named. named ≡ page) → BringsOnly a b (IsFrontOr page)
+read page brings = brings_weaker (λ named same. inr same) brings
+
+front : {a b : PagesHeld} (page : ℕ) → BringsOnly a b (λ named. named ≡ 0) → BringsOnly a b (IsFrontOr page)
+front page brings = brings_weaker (λ named same. inl same) brings
+
+pub returns-clause-brings : goal.returns-clause-brings
+returns-clause-brings g c =
+    on_ok_weaker c.put_number-2.result
+    (λ last. brings_then (brings_then (brings_then (read c.args.page.0 c.in_ok-rest.ensures.brings) (front c.args.page.0 c.in_ok-put_number.ensures.brings)) (read c.args.page.0 c.in_ok-edit.ensures.brings)) (read c.args.page.0 last))
+    c.put_number-2.ensures.brings
+
+pub returns-in_err-rest-clause-stays : goal.returns-in_err-rest-clause-stays
+returns-in_err-rest-clause-stays g c =
+    let failed = rests_breaks {N = λ list. IsFrontOr c.args.page.0} c.in_err-rest.ensures.stays in
+    search rules
+
+pub returns-in_err-put_number-clause-stays : goal.returns-in_err-put_number-clause-stays
+returns-in_err-put_number-clause-stays g c =
+    let failed = breaks_then c.in_ok-rest.ensures.seen (read c.args.page.0 c.in_ok-rest.ensures.brings) (rests_breaks c.in_err-put_number.ensures.stays) in
+    search rules
+
+pub returns-in_err-edit-clause-stays : goal.returns-in_err-edit-clause-stays
+returns-in_err-edit-clause-stays g c =
+    let failed = breaks_then c.in_ok-rest.ensures.seen (read c.args.page.0 c.in_ok-rest.ensures.brings)
+    (breaks_then c.in_ok-put_number.ensures.lists (front c.args.page.0 c.in_ok-put_number.ensures.brings) (rests_breaks c.in_err-edit.ensures.stays)) in
+    search rules
+
+pub returns-clause-stays : goal.returns-clause-stays
+returns-clause-stays g c =
+    IfErr-weaker c.put_number-2.result _ _
+    (λ fault rests. breaks_then c.in_ok-rest.ensures.seen (read c.args.page.0 c.in_ok-rest.ensures.brings)
+    (breaks_then c.in_ok-put_number.ensures.lists (front c.args.page.0 c.in_ok-put_number.ensures.brings)
+    (breaks_then c.in_ok-edit.ensures.lists (read c.args.page.0 c.in_ok-edit.ensures.brings) (rests_breaks rests))))
+    c.put_number-2.ensures.stays

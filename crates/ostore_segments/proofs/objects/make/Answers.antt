@@ -1,8 +1,12 @@
-use Rattle.std.proofs.Common.{rules, ap, Ok, Err, arith, ◌∙◌}
+use Rattle.std.proofs.Common.{List, rules, ap, Ok, Err, arith, ◌∙◌}
 use Rattle.ostore_base.specs.declared.numbers.PageNo.{PageNo}
+use Rattle.ostore_base.specs.declared.page.PageImage.{PageImage}
 use Rattle.ostore_segments.specs.Holdings.{PagesTold}
+use Rattle.ostore_segments.specs.Naming.{IsWantedIn}
 use Rattle.ostore_segments.proofs.ListSteps.{Stands-both, Becomes-stands, Becomes-then, Becomes-weaker}
 use Rattle.ostore_segments.proofs.MakeLaws.{open_placed, placed_is, placed_left, makes}
+use Rattle.ostore_segments.proofs.ViewLaws.{each_then, breaks_later}
+use Rattle.ostore_segments.proofs.NamingLaws.{kept_named, back_placed}
 use Rattle.ostore_segments.proofs.objects.make.Goals as goal
 
 pub make_on-requires-clause-size : goal.make_on-requires-clause-size
@@ -31,4 +35,22 @@ returns-in-Err-clause-lists g c = open_placed c.args.segment _ c.in_ok-page.fiel
 pub returns-in_err-make_on-in-Ok-clause-fails : goal.returns-in_err-make_on-in-Ok-clause-fails
 returns-in_err-make_on-in-Ok-clause-fails g c =
     let failed = g.met.P.Pages.fails_later _ _ _ _ c.in_ok-page.ensures.passes c.in_err-make_on-in-Ok.ensures.fails in
+    search rules
+
+pub returns-in_ok-make_on-in-Ok-clause-brings : goal.returns-in_ok-make_on-in-Ok-clause-brings
+returns-in_ok-make_on-in-Ok-clause-brings g c =
+    each_then (Becomes-stands {Q = λ list. List PageImage} c.requires.allocated (λ old new fine placed. old) (open_placed c.args.segment _ c.in_ok-page.field-0 (Ok c.in-Ok.page) c.in-Ok.is c.in_ok-page.ensures.lists))
+    c.in_ok-make_on-in-Ok.ensures.lists
+    (λ old new named known made is. kept_named made.middle new c.args.segment named c.requires.segment made.added.lists (kept_named old made.middle c.args.segment named c.requires.segment made.drawn.lists is))
+    c.in_ok-page.ensures.brings c.in_ok-make_on-in-Ok.ensures.brings
+
+pub returns-in-Err-clause-brings : goal.returns-in-Err-clause-brings
+returns-in-Err-clause-brings g c = c.in_ok-page.ensures.brings
+
+pub returns-in_err-make_on-in-Ok-clause-stays : goal.returns-in_err-make_on-in-Ok-clause-stays
+returns-in_err-make_on-in-Ok-clause-stays g c =
+    let failed = breaks_later {N = λ list. IsWantedIn list c.args.segment} c.requires.allocated (open_placed c.args.segment _ c.in_ok-page.field-0 (Ok c.in-Ok.page) c.in-Ok.is c.in_ok-page.ensures.lists) c.in_ok-page.ensures.brings
+    (λ old middle named fine placed is. back_placed old middle c.args.segment _ c.in-Ok.page.0 named placed is)
+    (λ old middle named fine placed is. back_placed old middle c.args.segment _ c.in-Ok.page.0 named placed is)
+    c.in_err-make_on-in-Ok.ensures.stays in
     search rules

@@ -1,7 +1,10 @@
-use Rattle.std.proofs.Common.{◌≡◌, Result, Ok, Err, IsErrAnd, IfErr, ◌∙◌, ap, subst, sym}
+use Rattle.std.proofs.Common.{◌≡◌, Result, Ok, Err, IsErrAnd, IfErr, ◌∙◌, ap, subst, sym, inr}
 use Rattle.ostore_segments.specs.Holdings.{PagesTold}
+use Rattle.ostore_segments.specs.Naming.{IsPageOf, IsNamedIn}
 use Rattle.ostore_segments.proofs.ListSteps.{Stands-weaker, Becomes-stands, Becomes-then, Becomes-weaker}
 use Rattle.ostore_segments.proofs.MakeLaws.{drawn_room, draws_and_adds, object_asked, some_serial}
+use Rattle.ostore_segments.proofs.ViewLaws.{brings_on, each_then, breaks_later}
+use Rattle.ostore_segments.proofs.NamingLaws.{placed_named, kept_lists, kept_named, back_named}
 use Rattle.ostore_segments.proofs.objects.make_on.Goals as goal
 
 -- a fault that is handed on
@@ -37,3 +40,22 @@ returns-in_err-offset-clause-fails g c =
 
 pub returns-clause-passes : goal.returns-clause-passes
 returns-clause-passes g c = g.met.P.Pages.passes_on _ _ _ c.in_ok-serial.ensures.passes c.in_ok-offset.ensures.passes
+
+pub returns-clause-brings : goal.returns-clause-brings
+returns-clause-brings g c =
+    each_then (Becomes-stands c.requires.placed (λ old new placed drawn. kept_lists old new c.args.segment c.args.page.0 c.requires.segment drawn.lists (placed_named old c.args.segment _ c.args.page.0 placed)) c.in_ok-serial.ensures.lists)
+    c.in_ok-offset.ensures.lists
+    (λ old new named known added is. kept_named old new c.args.segment named c.requires.segment added.1.lists is)
+    c.in_ok-serial.ensures.brings
+    (brings_on
+    (Becomes-stands (Becomes-stands c.requires.placed (λ old new placed drawn. kept_lists old new c.args.segment c.args.page.0 c.requires.segment drawn.lists (placed_named old c.args.segment _ c.args.page.0 placed)) c.in_ok-serial.ensures.lists)
+    (λ old new it added. kept_lists old new c.args.segment c.args.page.0 c.requires.segment added.1.lists it) c.in_ok-offset.ensures.lists)
+    (λ list named it same. inr (subst (IsPageOf list c.args.segment) (sym same) it)) c.in_ok-offset.ensures.brings)
+
+pub returns-in_err-offset-clause-stays : goal.returns-in_err-offset-clause-stays
+returns-in_err-offset-clause-stays g c =
+    handed_on _ c.from_residual-in_err-offset.result c.in_err-offset.field-0.0 c.from_residual-in_err-offset.ensures.1
+    (breaks_later {N = λ list. IsNamedIn list c.args.segment} c.requires.placed c.in_ok-serial.ensures.lists c.in_ok-serial.ensures.brings
+    (λ old middle named placed drawn is. back_named old middle c.args.segment named placed.allocated c.requires.segment drawn.lists is)
+    (λ old middle named placed drawn same. inr (subst (IsPageOf old c.args.segment) (sym same) (placed_named old c.args.segment _ c.args.page.0 placed)))
+    c.in_err-offset.ensures.stays)

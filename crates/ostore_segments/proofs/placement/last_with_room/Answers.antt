@@ -1,7 +1,17 @@
-use Rattle.std.proofs.Common.{rules, ◌∙◌, sym}
+use Rattle.std.proofs.Common.{◌≡◌, ◌≢◌, ℕ, List, rules, ◌∙◌, sym, inl, inr}
+use Rattle.ostore_base.specs.declared.page.PageImage.{PageImage}
+use Rattle.ostore_page_tags.specs.declared.page_header.PageHeader.{PageHeader}
+use Rattle.ostore_page_tags.specs.PageLists.{header_at, first_of}
+use Rattle.ostore_page_tags.specs.PageChains.{IsSegment}
+use Rattle.ostore_page_tags.specs.Allocated.{IsAllocated}
+use Rattle.ostore_segments.specs.Holdings.{PagesHeld, Stands, Becomes, Sees, BringsOnly, BringsOnEach}
+use Rattle.ostore_segments.specs.Naming.{IsPageOf, IsNamedIn}
+use Rattle.ostore_segments.specs.inside.Fields.{IsFrontOr}
 use Rattle.ostore_segments.proofs.ListSteps.{Stands-seen, Stands-weaker, Becomes-look, Becomes-shows}
 use Rattle.ostore_segments.proofs.AllocatedLaws.{first_headed}
 use Rattle.ostore_segments.proofs.RoomLaws.{has_room, lacks_room, ends_none, last_headed, ends_with, ends_full}
+use Rattle.ostore_segments.proofs.ViewLaws.{brings_weaker, brings_then, on_each, brings_on, rests_breaks, breaks_at_once}
+use Rattle.ostore_segments.proofs.NamingLaws.{first_named, last_named, first_or_front, IsNear, near_named}
 use Rattle.ostore_segments.proofs.placement.last_with_room.Goals as goal
 
 pub returns-then-first-eq0-clause-lists : goal.returns-then-first-eq0-clause-lists
@@ -38,4 +48,48 @@ returns-clause-lists g c =
 pub returns-in_err-header_at-clause-fails : goal.returns-in_err-header_at-clause-fails
 returns-in_err-header_at-clause-fails g c =
     let failed = g.met.P.Pages.fails_later _ _ _ _ c.in_ok-first.ensures.passes c.in_err-header_at.ensures.fails in
+    search rules
+
+-- the pages that are looked at, on each list
+looked : {a b : PagesHeld} (segment first : ℕ) (header : PageHeader) {Q : List PageImage → Type 0} → IsSegment segment → first ≢ 0 → Stands a IsAllocated → Becomes a b (Sees (λ list. ((first_of list segment ≡ first) × (header_at list first ≡ header)) × Q list))
+    → BringsOnly a b (IsNear first header.last_page) → BringsOnEach a b (λ list. IsNamedIn list segment)
+looked segment first header within some stands seen brings =
+    brings_on
+    (Stands-weaker {Q = λ list. IsPageOf list segment first × IsPageOf list segment header.last_page}
+    (λ list known. (first_named list segment first known.0 within some known.1.0.0, last_named list segment first header (record { fine = known.0; within = within; some = some; at = known.1.0.0; seen = known.1.0.1 })))
+    (Stands-seen stands seen))
+    (λ list named it is. near_named list segment first header.last_page named it.0 it.1 is)
+    brings
+
+pub returns-then-first-eq0-clause-brings : goal.returns-then-first-eq0-clause-brings
+returns-then-first-eq0-clause-brings g c = on_each (λ list named front. inl front) c.in_ok-first.ensures.brings
+
+pub returns-then-has_room-clause-brings : goal.returns-then-has_room-clause-brings
+returns-then-has_room-clause-brings g c =
+    looked c.args.segment c.in_ok-first.first c.in_ok-header_at.field-0 c.requires.segment c.if-first-eq0.false c.requires.allocated
+    (Becomes-look (Becomes-look c.in_ok-first.ensures.seen c.in_ok-header_at.ensures.seen) c.in_ok-header.ensures.seen)
+    (brings_then (brings_then (brings_weaker (λ named front. inl (inl front)) c.in_ok-first.ensures.brings) (brings_weaker (λ named same. inl (inr same)) c.in_ok-header_at.ensures.brings)) (brings_weaker (λ named same. inr same) c.in_ok-header.ensures.brings))
+
+pub returns-clause-brings : goal.returns-clause-brings
+returns-clause-brings g c =
+    looked c.args.segment c.in_ok-first.first c.in_ok-header_at.field-0 c.requires.segment c.if-first-eq0.false c.requires.allocated
+    (Becomes-look (Becomes-look c.in_ok-first.ensures.seen c.in_ok-header_at.ensures.seen) c.in_ok-header.ensures.seen)
+    (brings_then (brings_then (brings_weaker (λ named front. inl (inl front)) c.in_ok-first.ensures.brings) (brings_weaker (λ named same. inl (inr same)) c.in_ok-header_at.ensures.brings)) (brings_weaker (λ named same. inr same) c.in_ok-header.ensures.brings))
+
+pub returns-in_err-first-clause-stays : goal.returns-in_err-first-clause-stays
+returns-in_err-first-clause-stays g c =
+    let failed = rests_breaks {N = λ list. IsNamedIn list c.args.segment} c.in_err-first.ensures.stays in
+    search rules
+
+pub returns-in_err-header_at-clause-stays : goal.returns-in_err-header_at-clause-stays
+returns-in_err-header_at-clause-stays g c =
+    let failed = breaks_at_once {N = λ list. IsNamedIn list c.args.segment} c.requires.allocated c.in_ok-first.ensures.seen c.in_ok-first.ensures.brings (λ old middle named fine seen front. inl front) c.in_err-header_at.ensures.stays in
+    search rules
+
+pub returns-in_err-header-clause-stays : goal.returns-in_err-header-clause-stays
+returns-in_err-header-clause-stays g c =
+    let failed = breaks_at_once {N = λ list. IsNamedIn list c.args.segment} c.requires.allocated (Becomes-look c.in_ok-first.ensures.seen c.in_ok-header_at.ensures.seen)
+    (brings_then (brings_weaker {N = IsFrontOr c.in_ok-first.first} (λ named front. inl front) c.in_ok-first.ensures.brings) (brings_weaker (λ named same. inr same) c.in_ok-header_at.ensures.brings))
+    (λ old middle named fine seen is. first_or_front old named (first_named old c.args.segment c.in_ok-first.first fine c.requires.segment c.if-first-eq0.false seen.1.0) is)
+    c.in_err-header.ensures.stays in
     search rules

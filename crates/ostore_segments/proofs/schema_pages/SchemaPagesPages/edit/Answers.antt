@@ -1,6 +1,7 @@
 use Rattle.std.proofs.Common.{◌∙◌, ap, arith, length}
 use Rattle.ostore_segments.proofs.ListSteps.{alone_becomes, alone_stands}
 use Rattle.ostore_segments.proofs.PutLaws.{edited_length}
+use Rattle.ostore_segments.proofs.ViewLaws.{alone_brings}
 use Rattle.ostore_segments.proofs.schema_pages.SchemaPagesPages.edit.Goals as goal
 
 pub put_bytes-requires-clause-there : goal.put_bytes-requires-clause-there
@@ -11,3 +12,6 @@ put_bytes-requires-clause-within c = let rows = (alone_stands c.args.self.now.pa
 
 pub returns-clause-lists : goal.returns-clause-lists
 returns-clause-lists c = alone_becomes c.args.self.now.pages _ (ap (λ list. length list) c.put_bytes.ensures ∙ edited_length c.args.self.now.pages c.args.page.0 c.args.at c.args.bytes.now) c.put_bytes.ensures
+
+pub returns-clause-brings : goal.returns-clause-brings
+returns-clause-brings c = alone_brings c.args.self.now.pages _ (ap (λ list. length list) c.put_bytes.ensures ∙ edited_length c.args.self.now.pages c.args.page.0 c.args.at c.args.bytes.now)
