@@ -64,7 +64,9 @@ stays schema update command reply before after list keeps steps room = record {
   taken = takes_none 1 list;
   only_new = λ other. takes_none 0 list;
   read = λ object member is. refl;
+  reads = λ reading. refl;
   refused = λ refusal is. refl;
+  pages = record { count = refl; kept = λ page is. is };
 }
 
 -- `get` and `set` want no space
@@ -166,11 +168,16 @@ module _ (schema : Schema) (before after : Leads) (object member : List ℕ) (va
     taken = λ free has. (free, stores.taken free has, omega arith);
     only_new = λ other free has. (free, stores.taken free has, omega arith);
     read = λ other_object other_member is. absurd (never_get other_object other_member is);
+    reads = λ never. absurd (never_false never);
     refused = λ refusal is. absurd (never_refused refusal is);
+    pages = stores.pages;
   }
     where
       never_get : (other_object other_member : List ℕ) → commands.Set object member (operands.Int value) ≡ commands.Get other_object other_member → ⊥
       never_get other_object other_member is = cc
+
+      never_false : true ≡ false → ⊥
+      never_false is = cc
 
       never_refused : (refusal : Refusal) → replies.Done ≡ replies.Refused refusal → ⊥
       never_refused refusal is = cc

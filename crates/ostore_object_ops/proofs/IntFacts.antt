@@ -36,6 +36,7 @@ use Rattle.ostore_graph_model.specs.Addresses.{PlacedCell}
 use Rattle.ostore_graph_model.specs.Records.{is_sized}
 use Rattle.ostore_graph_model.proofs.MemberEdits.{cell_sized, place_within}
 use Rattle.ostore_object_ops.specs.declared.lookup.Found.{Found}
+use Rattle.ostore_object_ops.specs.Claiming.{KeepsDataPages}
 use Rattle.ostore_object_ops.specs.inside.Members.{address_of, HasInt, StoresInt}
 use Rattle.ostore_object_ops.proofs.CellPlaces.{IsCellOn, cell_on, image_there}
 use Rattle.ostore_object_ops.proofs.GoodCells.{good_cells, sized_parts, told_size}
@@ -51,7 +52,13 @@ number_in_cell n start stop at bytes within =
     ap (little_number n) (sym (drop-drop at start bytes))
     ∙ number_at-same n at (drop start bytes) (between start stop bytes) (record { bytes = λ k low high. get_or-drop start bytes k 0 ∙ sym (between_read start stop k bytes (omega arith)) })
 
--- the free list stays where the headers do
+-- data pages stay where the headers do, and so does the free list
+pub data_stays : (old new : List PageImage) → length new ≡ length old → ((page : ℕ) → header_at new page ≡ header_at old page) → KeepsDataPages old new
+data_stays old new count same = record {
+  count = count;
+  kept = λ page is. record { lies = (is.lies.0, let high = is.lies.1 in omega arith); kind = ap (λ (h : PageHeader). h.kind) (same page) ∙ is.kind };
+}
+
 pub free_stays : (old new : List PageImage) → length new ≡ length old → ((page : ℕ) → header_at new page ≡ header_at old page) → (free : List ℕ) → HasFree old free → HasFree new free
 free_stays old new count same free has =
     let headers : header_at old ≡ header_at new = λ i page. sym (same page) i in
@@ -197,6 +204,11 @@ module _ (schema : Schema) (found : Found) (list : List PageImage) (has : HasInt
           };
         };
         taken = free_stays list new count (λ p. elim (cases_eq p found.page.0) [
+          | inl same ↦
+              ap header_of (ap₂ bytes_at is_new same ∙ edited_here list found.page.0 (found.offset + found.place.offset) part on.high) ∙ here.header ∙ ap (λ (q : ℕ). header_of (bytes_at list q)) (sym same)
+          | inr apart ↦ ap header_of (ap (λ (l : List PageImage). bytes_at l p) is_new ∙ edited_other list found.page.0 (found.offset + found.place.offset) p part apart)
+        ]);
+        pages = data_stays list new count (λ p. elim (cases_eq p found.page.0) [
           | inl same ↦
               ap header_of (ap₂ bytes_at is_new same ∙ edited_here list found.page.0 (found.offset + found.place.offset) part on.high) ∙ here.header ∙ ap (λ (q : ℕ). header_of (bytes_at list q)) (sym same)
           | inr apart ↦ ap header_of (ap (λ (l : List PageImage). bytes_at l p) is_new ∙ edited_other list found.page.0 (found.offset + found.place.offset) p part apart)

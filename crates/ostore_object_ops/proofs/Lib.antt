@@ -12,6 +12,8 @@ pub mod OnMember
 pub mod MemberFacts
 pub mod FindFacts
 pub mod CommandFacts
+pub mod ClaimFacts
 pub mod PageBridge
 pub mod NewFacts
+pub mod CountFacts
 pub mod RunLaws

@@ -66,6 +66,7 @@ use Rattle.ostore_object_ops.specs.Executes.{TakesAtMost, LacksSpace, Executes}
 use Rattle.ostore_object_ops.proofs.CommandFacts.{stays, valid_after, holds_graph}
 use Rattle.ostore_object_ops.proofs.GoodCells.{told_type}
 use Rattle.ostore_object_ops.proofs.LeadFacts.{KeepsLeads, leads_kept, name_kept}
+use Rattle.ostore_object_ops.proofs.ClaimFacts.{made_data}
 use Rattle.ostore_object_ops.proofs.PageBridge.{grows_is, draws_is, adds_is}
 
 -- ---- the type
@@ -360,11 +361,16 @@ module _ (schema : Schema) (home later : ℕ → Option ℕ) (bound now : List �
         (taken.0, makes.made.added.lists.free taken.0 (makes.made.drawn.lists.free taken.0 taken.1), taken.2);
     only_new = λ other. absurd (other to ty segment refl);
     read = λ object member is. absurd (never_get object member is);
+    reads = λ never. absurd (never_false never);
     refused = λ refusal is. absurd (never_refused refusal is);
+    pages = made_data old new segment page (code_size schema number.0) number.0 serial offset fine makes;
   }
     where
       never_get : (object member : List ℕ) → commands.New to ty segment ≡ commands.Get object member → ⊥
       never_get object member is = cc
+
+      never_false : true ≡ false → ⊥
+      never_false is = cc
 
       never_refused : (refusal : Refusal) → replies.Named (record { segment = segment; serial = serial }) ≡ replies.Refused refusal → ⊥
       never_refused refusal is = cc

@@ -1,11 +1,12 @@
 -- How executed lines make an executed transaction.
-use Rattle.std.proofs.Common.{◌≡◌, ◌<◌, ◌≤◌, ◌+◌, length, drop, get_or, suc, zero, arith, List, [], ◌∷◌, ◌++◌, refl, sym, ap, subst, ◌∙◌, Some}
-use Rattle.std.specs.Prelude.{ℕ}
-use Rattle.std.specs.List.{slice_get}
+use Rattle.std.proofs.Common.{◌≡◌, ◌≢◌, ◌<◌, ◌≤◌, ◌+◌, ◌*◌, Bool, true, false, length, drop, get_or, suc, zero, arith, List, [], ◌∷◌, ◌++◌, refl, sym, ap, subst, ◌∙◌, Some}
+use Rattle.std.specs.Prelude.{ℕ, if◌then◌else◌}
+use Rattle.std.specs.List.{slice_get, AllPairs, Contains}
 use Rattle.std.specs.FinMap as maps
 use Rattle.std.proofs.lemmas.List.{append_assoc, append-nil, length-append, drop_more}
 use Rattle.std.proofs.lemmas.Option.{slice_get_within, get_or_from_slice_get}
 use Rattle.ostore_base.specs.declared.page.PageImage.{PageImage}
+use Rattle.ostore_page_tags.specs.Allocated.{HasFree}
 use Rattle.ostore_schema_layout.specs.declared.schema.Schema.{Schema}
 use Rattle.ostore_graph_model.specs.declared.values.Reply.{Reply}
 use Rattle.ostore_graph_model.specs.declared.commands.Command.{Command}
@@ -20,8 +21,11 @@ use Rattle.ostore_object_ops.specs.Means.{Leads, LeadsToName}
 use Rattle.ostore_object_ops.specs.Executes.{TakesAtMost}
 use Rattle.ostore_segments.specs.declared.placement.NoSpace.{NoSpace}
 use Rattle.ostore_object_ops.specs.Lines.{LacksLine, HasRun, LacksGrowth}
+use Rattle.ostore_segments.specs.Holdings.{PagesHeld}
+use Rattle.ostore_object_ops.specs.Claiming.{IsTriedPage, SeesOneMore, HasFewInView}
+use Rattle.ostore_object_ops.proofs.CountFacts.{few_pages, few_in_read}
 use Rattle.ostore_object_ops.proofs.NewFacts.{same_free}
-use Rattle.ostore_object_ops.specs.LawsOfRuns.{LawOfFirstLines, LawOfNextLines, LawOfMeanings, LawOfLastLines}
+use Rattle.ostore_object_ops.specs.LawsOfRuns.{LawOfFirstLines, LawOfNextLines, LawOfMeanings, LawOfLastLines, LawOfFewPages}
 
 abbrev no_vars : Vars
 no_vars = maps.empty
@@ -43,6 +47,8 @@ first_lines schema txn leads list valid none = record {
   };
   few = omega arith;
   taken = λ free has. (free, has, omega arith);
+  reads = λ reading. refl;
+  count = refl;
 }
 
 -- the command at a place
@@ -97,6 +103,8 @@ next_lines schema txn replies more before after begun old new run line =
           };
       few = omega arith;
       taken = subst (λ (n : ℕ). TakesAtMost n begun new) (sym counted) (takes_more (length replies) 1 begun old new run.taken line.executes.taken);
+      reads = λ reading. line.executes.reads reading ∙ run.reads reading;
+      count = line.executes.pages.count ∙ run.count;
     }
 
 pub meanings : LawOfMeanings
@@ -142,3 +150,36 @@ lacks_growth schema txn replies leads begun old lack run lacks graph free has =
     let there = slice_get_within txn.commands (length replies) lacks.0 lacks.1 in
     let grows = grows_by graph txn.commands in
     omega arith
+
+-- a transaction may take two pages a command
+grows_twice : (graph : Graph) (commands : List Command) → 2 * length commands ≤ growth graph commands
+grows_twice graph commands = omega arith
+
+module _ (schema : Schema) (txn : Txn) (replies : List Reply) (leads : Leads) (begun list : List PageImage) (run : HasRun schema txn replies leads begun list) where
+  has_least : 10 ≤ length list
+  has_least =
+      let known = graph_exists schema begun run.opened.cells_kept in
+      let least = (run.along known.0 known.1).means.valid.pages_kept.allocated.least in
+      omega arith
+
+  module _ (left : length replies < length txn.commands) (pages : List ℕ) (once : AllPairs (λ page later. page ≢ later) pages) (are : (page : ℕ) → Contains pages page → IsTriedPage txn.update list page) (graph : Graph) (free : List ℕ) (has : HasFree begun free) where
+    -- the pages that its lines try
+    few_tried : (update : Bool) → txn.update ≡ update → length pages + 10 + length free < 2 + length begun + growth graph (if update then txn.commands else [])
+    few_tried true may =
+        let rest = run.taken free has in
+        let less = rest.2 in
+        let few = few_pages list rest.0 rest.1 txn.update has_least pages once are in
+        let count = run.count in
+        let grows = grows_twice graph txn.commands in
+        omega arith
+    few_tried false reading =
+        let few = few_in_read list free (subst (λ (l : List PageImage). HasFree l free) (sym (run.reads reading)) has) txn.update reading has_least pages once are in
+        let count = run.count in
+        omega arith
+
+pub few_lines : LawOfFewPages
+few_lines schema txn replies leads begun list run left pages once are graph free has = few_tried schema txn replies leads begun list run left pages once are graph free has txn.update refl
+
+-- and those that are in view
+pub few_in_view : (schema : Schema) (txn : Txn) (replies : List Reply) (leads : Leads) (begun list : List PageImage) (holding : PagesHeld) → HasRun schema txn replies leads begun list → length replies < length txn.commands → SeesOneMore txn.update holding list → HasFewInView holding txn begun
+few_in_view schema txn replies leads begun list holding run left sees pages once there = few_lines schema txn replies leads begun list run left pages once (λ page among. sees page (there page among))

@@ -1,5 +1,5 @@
 -- What a command does to pages: on every list of pages that means a graph, what *Step* does to that graph.
-use Rattle.std.specs.Prelude.{◌≡◌, ◌+◌, ◌≤◌, ℕ, Bool, true, List, length, Some}
+use Rattle.std.specs.Prelude.{◌≡◌, ◌+◌, ◌≤◌, ℕ, Bool, true, false, List, length, Some}
 use Rattle.ostore_base.specs.declared.page.PageImage.{PageImage}
 use Rattle.ostore_page_tags.specs.declared.layout.TheConstants.{ROW_BYTES}
 use Rattle.ostore_page_tags.specs.Allocated.{HasFree}
@@ -19,6 +19,7 @@ use Rattle.ostore_graph_model.specs.Graph.{Graph}
 use Rattle.ostore_graph_model.specs.Deeds.{Vars}
 use Rattle.ostore_graph_model.specs.Step.{Steps}
 use Rattle.ostore_object_ops.specs.Means.{Leads, Means}
+use Rattle.ostore_object_ops.specs.Claiming.{KeepsDataPages}
 
 -- ---- a command is executed
 
@@ -49,7 +50,7 @@ pub record LacksSpace (schema : Schema) (update : Bool) (command : Command) (lac
 
 -- A command was executed with this reply: the variables led to these addresses before and lead to those after, and
 -- one list of pages became another. It lacked no space. Only `new` took a page, and one at most; `get` left all pages, and
--- so did each command that was refused.
+-- so did each command of a read and each one that was refused. What was a data page stays one.
 pub record Executes (schema : Schema) (update : Bool) (command : Command) (reply : Reply) (before after : Leads) (old new : List PageImage) : Type 0 where
   pub does : (vars : Vars) (graph : Graph) → Means schema old before vars graph
       → IsDone schema update command reply after new vars graph
@@ -57,4 +58,6 @@ pub record Executes (schema : Schema) (update : Bool) (command : Command) (reply
   pub taken : TakesAtMost 1 old new
   pub only_new : ((to ty : List ℕ) (segment : ℕ) → command ≡ commands.New to ty segment → ⊥) → TakesAtMost 0 old new
   pub read : (object member : List ℕ) → command ≡ commands.Get object member → new ≡ old
+  pub reads : update ≡ false → new ≡ old
   pub refused : (refusal : Refusal) → reply ≡ replies.Refused refusal → new ≡ old
+  pub pages : KeepsDataPages old new

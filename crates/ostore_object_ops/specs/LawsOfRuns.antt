@@ -1,11 +1,13 @@
 -- Laws of the lines of a transaction.
-use Rattle.std.specs.Prelude.{◌≡◌, ℕ, ◌≤◌, List, [], length, None}
+use Rattle.std.specs.Prelude.{◌≡◌, ◌≢◌, ℕ, ◌<◌, ◌≤◌, List, [], length, None}
+use Rattle.std.specs.List.{AllPairs, Contains}
 use Rattle.ostore_base.specs.declared.page.PageImage.{PageImage}
 use Rattle.ostore_schema_layout.specs.declared.schema.Schema.{Schema}
 use Rattle.ostore_graph_model.specs.declared.values.Reply.{Reply}
 use Rattle.ostore_graph_model.specs.declared.commands.Txn.{Txn}
 use Rattle.ostore_graph_model.specs.Valid.{IsValid}
 use Rattle.ostore_object_ops.specs.Means.{Leads, HasMeaning}
+use Rattle.ostore_object_ops.specs.Claiming.{IsTriedPage, IsBelowGrowth}
 use Rattle.ostore_object_ops.specs.Lines.{RunsLine, HasRun, Transacts}
 
 -- before its first line a transaction has run on a valid list, whatever it is
@@ -33,3 +35,13 @@ LawOfLastLines =
     (schema : Schema) (txn : Txn) (replies : List Reply) (leads : Leads) (begun list : List PageImage)
     → HasRun schema txn replies leads begun list → length txn.commands ≤ length replies
     → Transacts schema txn replies begun list
+
+-- The pages that its lines try are few: at one of its lines, pages no two of which are equal, and each of which a line
+-- may have tried, are fewer than 2, the data pages of the list with which it began, and its *Growth* together.
+abbrev pub LawOfFewPages : Type 0
+LawOfFewPages =
+    (schema : Schema) (txn : Txn) (replies : List Reply) (leads : Leads) (begun list : List PageImage)
+    → HasRun schema txn replies leads begun list → length replies < length txn.commands
+    → (pages : List ℕ) → AllPairs (λ page later. page ≢ later) pages
+    → ((page : ℕ) → Contains pages page → IsTriedPage txn.update list page)
+    → IsBelowGrowth txn begun (length pages)

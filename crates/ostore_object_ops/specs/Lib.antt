@@ -4,6 +4,7 @@ pub mod Bound
 pub mod Means
 pub mod Suits
 pub mod Progresses
+pub mod Claiming
 pub mod Executes
 pub mod Stops
 pub mod Lines

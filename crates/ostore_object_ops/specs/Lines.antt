@@ -1,5 +1,5 @@
 -- What the lines of a transaction do to pages, one after the other.
-use Rattle.std.specs.Prelude.{◌≡◌, ◌<◌, ◌≤◌, ℕ, List, ◌∷◌, [], ◌++◌, length, drop, Some}
+use Rattle.std.specs.Prelude.{◌≡◌, ◌<◌, ◌≤◌, ℕ, false, List, ◌∷◌, [], ◌++◌, length, drop, Some}
 use Rattle.std.specs.List.{slice_get}
 use Rattle.ostore_base.specs.declared.page.PageImage.{PageImage}
 use Rattle.ostore_page_tags.specs.Allocated.{HasFree}
@@ -43,12 +43,15 @@ pub record IsAlong (schema : Schema) (txn : Txn) (replies : List Reply) (leads :
   pub run : run_from schema txn.update vars now (drop (length replies) txn.commands) ≡ left
   pub all : Runs schema txn graph (replies ++ left.replies) left.graph
 
--- A transaction began on a valid list of pages, and its lines that have a reply have made another list of it.
+-- A transaction began on a valid list of pages, and its lines that have a reply have made another list of it. Those of a
+-- read have left it.
 pub record HasRun (schema : Schema) (txn : Txn) (replies : List Reply) (leads : Leads) (begun list : List PageImage) : Type 0 where
   pub opened : IsValid schema begun
   pub along : (graph : Graph) → StandsFor schema begun graph → IsAlong schema txn replies leads list graph
   pub few : length replies ≤ length txn.commands
   pub taken : TakesAtMost (length replies) begun list
+  pub reads : txn.update ≡ false → list ≡ begun
+  pub count : length list ≡ length begun
 
 -- ---- all lines
 

@@ -57,6 +57,8 @@ impl<'a> Pages for WatchedPages<'a> {
 
     ghost fails = { λ earlier fault later. ⊤ };
 
+    ghost stays = { λ fault. ⊤ };
+
     fn enter(&mut self, page: PageNo) -> Result<(), OutOfMemory> {
         self.claims.note(Claim::Read(page.0))?;
         Ok(())

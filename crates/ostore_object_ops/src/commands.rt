@@ -1,11 +1,12 @@
 //! One command.
 
-ghost use Rattle.std.specs.Prelude.{◌≡◌, IfOk, OnOk, IfErr, OnErr};
-ghost use Rattle.ostore_segments.specs.Holdings.{Stands, Becomes, Sees};
+ghost use Rattle.std.specs.Prelude.{◌≡◌, ⊤, IfOk, OnOk, IfErr, OnErr};
+ghost use Rattle.ostore_segments.specs.Holdings.{Stands, Becomes, Sees, BringsOnly, BringsOnEach, BreaksOff};
 ghost use Rattle.ostore_object_ops.specs.Bound.{leads_of, SameBound};
 ghost use Rattle.ostore_object_ops.specs.Means.{HasMeaning};
 ghost use Rattle.ostore_object_ops.specs.Suits.{Suits, MayUpdate, IsBuilt};
 ghost use Rattle.ostore_graph_model.specs.Valid.{IsValid};
+ghost use Rattle.ostore_object_ops.specs.Claiming.{IsObjectPage, IsUsedBy, IsWantedBy};
 ghost use Rattle.ostore_object_ops.specs.Executes.{Executes, LacksSpace};
 ghost use Rattle.ostore_object_ops.specs.Stops.{IfNoSpace, IfOutOfMemory, Stopped};
 
@@ -38,7 +39,12 @@ fn run_set<P: CellPages>(
         (Executes schema.now update command reply
         (leads_of (P.held pages.old) vars.now) (leads_of (P.held pages.new) vars.now))) }
     ensures passes { OnOk result (P.passes pages.old pages.new) }
+    ensures brings { OnOk result (BringsOnly (P.held pages.old) (P.held pages.new)
+        (IsObjectPage (leads_of (P.held pages.old) vars.now) object.now)) }
     ensures fails { IfErr result (λ fault. P.fails pages.old fault pages.new) }
+    ensures stays { let named = IsObjectPage (leads_of (P.held pages.old) vars.now) object.now in
+        IfErr result (λ fault. P.stays fault
+        → BreaksOff (P.held pages.old) (P.held pages.new) (λ list. named)) }
     ensures told { P.told pages.new ≡ P.told pages.old }
 {
     match value {
@@ -80,8 +86,13 @@ where
         (Sees (LacksSpace schema.now update command.now no)))) }
     ensures vars { OnErr result (SameBound vars.old vars.new) }
     ensures passes { OnOk result (P.passes pages.old pages.new) }
+    ensures brings { OnOk result (BringsOnEach (P.held pages.old) (P.held pages.new)
+        (IsUsedBy update command.now (leads_of (P.held pages.old) vars.old))) }
     ensures stops { IfErr result (λ stop. Stopped stop
         (λ fault. P.fails pages.old fault pages.new) (P.passes pages.old pages.new)) }
+    ensures stays { IfErr result (λ stop. Stopped stop (λ fault. P.stays fault
+        → BreaksOff (P.held pages.old) (P.held pages.new)
+        (IsWantedBy update command.now (leads_of (P.held pages.old) vars.old))) ⊤) }
     ensures memory { IfErr result (IfOutOfMemory (Becomes (P.held pages.old) (P.held pages.new)
         (λ old new. IsValid schema.now new))) }
     ensures told { P.told pages.new ≡ P.told pages.old }

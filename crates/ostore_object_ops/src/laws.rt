@@ -2,7 +2,7 @@
 //! lines one by one, with other work between them, calls their functions to know what all of them make of the
 //! list with which it began.
 
-ghost use Rattle.ostore_object_ops.specs.LawsOfRuns.{LawOfFirstLines, LawOfNextLines, LawOfMeanings, LawOfLastLines};
+ghost use Rattle.ostore_object_ops.specs.LawsOfRuns.{LawOfFirstLines, LawOfNextLines, LawOfMeanings, LawOfLastLines, LawOfFewPages};
 
 /// Before its first line a transaction has run on every valid list.
 pub fn no_line_is_run()
@@ -22,4 +22,9 @@ pub fn run_has_meaning()
 /// Where it has run up to its end, it was executed: its replies and its graph are *Transaction*'s.
 pub fn run_is_transaction()
     ensures { LawOfLastLines }
+{}
+
+/// The pages that its lines use are fewer than 2, the data pages with which it began, and its growth together.
+pub fn used_pages_are_few()
+    ensures { LawOfFewPages }
 {}

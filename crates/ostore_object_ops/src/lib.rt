@@ -13,7 +13,9 @@ mod suits;
 mod vars;
 
 pub use commands::run_command;
-pub use laws::{line_is_run, no_line_is_run, run_has_meaning, run_is_transaction};
+pub use laws::{
+    line_is_run, no_line_is_run, run_has_meaning, run_is_transaction, used_pages_are_few,
+};
 pub use progress::Progress;
 pub use run::{run_line, run_transaction};
 pub use stop::Stop;

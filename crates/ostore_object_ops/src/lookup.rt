@@ -2,10 +2,11 @@
 
 ghost use Rattle.std.specs.Prelude.{◌≡◌, ◌%◌, false, IfOk, OnOk, IfErr, MatchResult};
 ghost use Rattle.ostore_base.specs.declared.page.TheConstants.{PAGE_SIZE};
-ghost use Rattle.ostore_segments.specs.Holdings.{Stands, Becomes, Sees};
+ghost use Rattle.ostore_segments.specs.Holdings.{Stands, Becomes, Sees, BringsOnly, Rests};
 ghost use Rattle.ostore_object_ops.specs.Bound.{leads_of};
 ghost use Rattle.ostore_object_ops.specs.Means.{HasMeaning};
 ghost use Rattle.ostore_object_ops.specs.Suits.{Suits};
+ghost use Rattle.ostore_object_ops.specs.Claiming.{IsObjectPage};
 ghost use Rattle.ostore_object_ops.specs.inside.Members.{IsMember, RefusesMember};
 
 use crate::vars::Vars;
@@ -52,7 +53,11 @@ pub(crate) fn find_place<P: CellPages>(
     ensures view { IfOk result (λ found.
         IfOk found (λ found. (P.held pages.new).in_view found.page.0)) }
     ensures passes { OnOk result (P.passes pages.old pages.new) }
+    ensures brings { OnOk result (BringsOnly (P.held pages.old) (P.held pages.new)
+        (IsObjectPage (leads_of (P.held pages.old) vars.now) variable.now)) }
     ensures fails { IfErr result (λ fault. P.fails pages.old fault pages.new) }
+    ensures stays { IfErr result (λ fault. P.stays fault
+        → Rests (P.held pages.old) (P.held pages.new)) }
     ensures told { P.told pages.new ≡ P.told pages.old }
 {
     let Some(pointer) = vars.get(variable) else {

@@ -8,14 +8,16 @@ ghost use Rattle.ostore_page_tags.specs.Limits.{most_pages};
 ghost use Rattle.ostore_page_tags.specs.PageChains.{IsSegment};
 ghost use Rattle.ostore_page_tags.specs.Allocated.{IsAllocated};
 ghost use Rattle.ostore_schema_layout.specs.Cells.{IsType, code_size};
-ghost use Rattle.ostore_segments.specs.Holdings.{Stands, Becomes, Sees};
+ghost use Rattle.ostore_segments.specs.Holdings.{Stands, Becomes, Sees, BringsOnEach, BreaksOff};
 ghost use Rattle.ostore_segments.specs.Serials.{AreSpent};
 ghost use Rattle.ostore_segments.specs.Placing.{FindsNone};
+ghost use Rattle.ostore_segments.specs.Naming.{IsNamedIn, IsWantedIn};
 ghost use Rattle.ostore_segments.specs.Making.{Makes};
 ghost use Rattle.ostore_object_ops.specs.Bound.{leads_of, SameBound};
 ghost use Rattle.ostore_object_ops.specs.Means.{HasMeaning};
 ghost use Rattle.ostore_object_ops.specs.Suits.{Suits};
 ghost use Rattle.ostore_graph_model.specs.Valid.{IsValid};
+ghost use Rattle.ostore_object_ops.specs.Claiming.{IsUsedBy, IsWantedBy};
 ghost use Rattle.ostore_object_ops.specs.Executes.{Executes, LacksSpace};
 ghost use Rattle.ostore_object_ops.specs.Stops.{IfNoSpace, IfOutOfMemory, Stopped};
 
@@ -52,7 +54,11 @@ fn make_cell<P: CellPages>(
     ensures view { IfOk result (λ made. IfOk made
         (λ cell. (P.held pages.new).in_view cell.page.0)) }
     ensures passes { OnOk result (P.passes pages.old pages.new) }
+    ensures brings { OnOk result (BringsOnEach (P.held pages.old) (P.held pages.new)
+        (λ list. IsNamedIn list segment)) }
     ensures fails { IfErr result (λ fault. P.fails pages.old fault pages.new) }
+    ensures stays { IfErr result (λ fault. P.stays fault
+        → BreaksOff (P.held pages.old) (P.held pages.new) (λ list. IsWantedIn list segment)) }
     ensures told { P.told pages.new ≡ P.told pages.old }
 {
     let cell = match make(pages, segment, code_size(schema, number.0), number.0)? {
@@ -88,8 +94,15 @@ where
         (Sees (LacksSpace schema.now true command no)))) }
     ensures vars { OnErr result (SameBound vars.old vars.new) }
     ensures passes { OnOk result (P.passes pages.old pages.new) }
+    ensures brings { let command = commands.New to.now ty.now segment in
+        OnOk result (BringsOnEach (P.held pages.old) (P.held pages.new)
+        (IsUsedBy true command (leads_of (P.held pages.old) vars.old))) }
     ensures stops { IfErr result (λ stop. Stopped stop
         (λ fault. P.fails pages.old fault pages.new) (P.passes pages.old pages.new)) }
+    ensures stays { let command = commands.New to.now ty.now segment in
+        IfErr result (λ stop. Stopped stop (λ fault. P.stays fault
+        → BreaksOff (P.held pages.old) (P.held pages.new)
+        (IsWantedBy true command (leads_of (P.held pages.old) vars.old))) ⊤) }
     ensures memory { IfErr result (IfOutOfMemory (Becomes (P.held pages.old) (P.held pages.new)
         (λ old new. IsValid schema.now new))) }
     ensures told { P.told pages.new ≡ P.told pages.old }

@@ -5,10 +5,11 @@ ghost use Rattle.ostore_base.specs.declared.page.PageImage.{PageImage};
 ghost use Rattle.ostore_graph_model.specs.declared.commands.Command.TheVariants as commands;
 ghost use Rattle.ostore_graph_model.specs.declared.commands.Operand.TheVariants as operands;
 ghost use Rattle.ostore_schema_layout.specs.declared.schema.MemberKind.TheVariants as kinds;
-ghost use Rattle.ostore_segments.specs.Holdings.{Stands, Becomes};
+ghost use Rattle.ostore_segments.specs.Holdings.{Stands, Becomes, BringsOnly, Rests, BreaksOff};
 ghost use Rattle.ostore_object_ops.specs.Bound.{leads_of};
 ghost use Rattle.ostore_object_ops.specs.Means.{HasMeaning};
 ghost use Rattle.ostore_object_ops.specs.Suits.{Suits};
+ghost use Rattle.ostore_object_ops.specs.Claiming.{IsObjectPage};
 ghost use Rattle.ostore_object_ops.specs.Executes.{Executes};
 ghost use Rattle.ostore_object_ops.specs.inside.Members.{HasInt, HoldsInt, StoresInt};
 
@@ -44,7 +45,11 @@ fn store_int<P: CellPages>(
     ensures lists { OnOk result (Becomes (P.held pages.old) (P.held pages.new)
         (λ old new. StoresInt schema.now found value old new)) }
     ensures passes { OnOk result (P.passes pages.old pages.new) }
+    ensures brings { OnOk result (BringsOnly (P.held pages.old) (P.held pages.new)
+        (λ named. named ≡ found.page.0)) }
     ensures fails { IfErr result (λ fault. P.fails pages.old fault pages.new) }
+    ensures stays { IfErr result (λ fault. P.stays fault
+        → Rests (P.held pages.old) (P.held pages.new)) }
     ensures told { P.told pages.new ≡ P.told pages.old }
 {
     pages.edit_cell(
@@ -72,7 +77,11 @@ pub(crate) fn run_get<P: CellPages>(
         (Executes schema.now update (commands.Get object.now member.now) reply
         (leads_of (P.held pages.old) vars.now) (leads_of (P.held pages.new) vars.now))) }
     ensures passes { OnOk result (P.passes pages.old pages.new) }
+    ensures brings { OnOk result (BringsOnly (P.held pages.old) (P.held pages.new)
+        (IsObjectPage (leads_of (P.held pages.old) vars.now) object.now)) }
     ensures fails { IfErr result (λ fault. P.fails pages.old fault pages.new) }
+    ensures stays { IfErr result (λ fault. P.stays fault
+        → Rests (P.held pages.old) (P.held pages.new)) }
     ensures told { P.told pages.new ≡ P.told pages.old }
 {
     let found = match find_place(pages, schema, vars, object, member)? {
@@ -100,7 +109,12 @@ pub(crate) fn run_set_int<P: CellPages>(
         (Executes schema.now true command reply
         (leads_of (P.held pages.old) vars.now) (leads_of (P.held pages.new) vars.now))) }
     ensures passes { OnOk result (P.passes pages.old pages.new) }
+    ensures brings { OnOk result (BringsOnly (P.held pages.old) (P.held pages.new)
+        (IsObjectPage (leads_of (P.held pages.old) vars.now) object.now)) }
     ensures fails { IfErr result (λ fault. P.fails pages.old fault pages.new) }
+    ensures stays { let named = IsObjectPage (leads_of (P.held pages.old) vars.now) object.now in
+        IfErr result (λ fault. P.stays fault
+        → BreaksOff (P.held pages.old) (P.held pages.new) (λ list. named)) }
     ensures told { P.told pages.new ≡ P.told pages.old }
 {
     let found = match find_place(pages, schema, vars, object, member)? {

@@ -1,6 +1,6 @@
 //! The lines of a transaction.
 
-ghost use Rattle.std.specs.Prelude.{◌≡◌, ◌<◌, length, IfOk, OnOk, OnErr, IfErr};
+ghost use Rattle.std.specs.Prelude.{◌≡◌, ◌<◌, ⊤, length, IfOk, OnOk, OnErr, IfErr};
 ghost use Rattle.std.specs.List.{AllByRecursion};
 ghost use Rattle.ostore_segments.specs.Holdings.{Stands, Becomes, Sees};
 ghost use Rattle.ostore_graph_model.specs.Valid.{IsValid};
@@ -8,6 +8,7 @@ ghost use Rattle.ostore_object_ops.specs.Progresses.{replies_of, leads_by};
 ghost use Rattle.ostore_object_ops.specs.Means.{HasMeaning};
 ghost use Rattle.ostore_object_ops.specs.Suits.{Suits, MayUpdate, IsBuilt};
 ghost use Rattle.ostore_object_ops.specs.Stops.{IfNoSpace, IfOutOfMemory, Stopped};
+ghost use Rattle.ostore_object_ops.specs.Claiming.{SeesLinePages, BreaksLine, HasFewInView};
 ghost use Rattle.ostore_object_ops.specs.Lines.{RunsLine, LacksLine, Transacts, LacksGrowth};
 
 use crate::commands::run_command;
@@ -41,8 +42,13 @@ where
         (Sees (LacksLine schema.now txn.now (replies_of progress.old) no)))) }
     ensures kept { OnErr result (replies_of progress.new ≡ replies_of progress.old) }
     ensures passes { OnOk result (P.passes pages.old pages.new) }
+    ensures sees { OnOk result (SeesLinePages txn.now.update (P.held pages.old)
+        → SeesLinePages txn.now.update (P.held pages.new)) }
     ensures stops { IfErr result (λ stop. Stopped stop
         (λ fault. P.fails pages.old fault pages.new) (P.passes pages.old pages.new)) }
+    ensures stays { IfErr result (λ stop. Stopped stop (λ fault. P.stays fault
+        → SeesLinePages txn.now.update (P.held pages.old)
+        → BreaksLine txn.now.update (P.held pages.old) (P.held pages.new)) ⊤) }
     ensures memory { IfErr result (IfOutOfMemory (Becomes (P.held pages.old) (P.held pages.new)
         (λ old new. IsValid schema.now new))) }
     ensures told { P.told pages.new ≡ P.told pages.old }
@@ -80,8 +86,14 @@ where
     ensures space { IfErr result (IfNoSpace (λ no. Becomes (P.held pages.old) (P.held pages.new)
         (λ old new. LacksGrowth txn.now old))) }
     ensures passes { OnOk result (P.passes pages.old pages.new) }
+    ensures sees { OnOk result (SeesLinePages txn.now.update (P.held pages.old)
+        → SeesLinePages txn.now.update (P.held pages.new)) }
     ensures stops { IfErr result (λ stop. Stopped stop
         (λ fault. P.fails pages.old fault pages.new) (P.passes pages.old pages.new)) }
+    ensures stays { IfErr result (λ stop. Stopped stop (λ fault. P.stays fault
+        → SeesLinePages txn.now.update (P.held pages.old)
+        → Becomes (P.held pages.old) (P.held pages.new)
+        (λ old new. HasFewInView (P.held pages.new) txn.now old)) ⊤) }
     ensures memory { IfErr result (IfOutOfMemory (Becomes (P.held pages.old) (P.held pages.new)
         (λ old new. IsValid schema.now new))) }
     ensures told { P.told pages.new ≡ P.told pages.old }

@@ -22,6 +22,7 @@ use Rattle.ostore_graph_model.specs.PageEdits.{HasPlace, WritesInt, name_of, mem
 use Rattle.ostore_graph_model.specs.Valid.{IsValid}
 use Rattle.ostore_object_ops.specs.declared.lookup.Found.{Found}
 use Rattle.ostore_object_ops.specs.Means.{Leads, Means}
+use Rattle.ostore_object_ops.specs.Claiming.{KeepsDataPages}
 
 -- a command that reads one variable and is on a member of its object
 abbrev pub on_member : Schema → Vars → Graph → List ℕ → List ℕ → (MemberKind → Bool) → (LiveMember → Deed) → Bool → Bool → Stepped
@@ -80,6 +81,7 @@ pub record StoresInt (schema : Schema) (found : Found) (value : ℤ) (old new : 
   pub cell : PlacedCell
   pub writes : WritesInt schema old new (address_of found) found.number.0 cell found.place value
   pub taken : (free : List ℕ) → HasFree old free → HasFree new free
+  pub pages : KeepsDataPages old new
 
 -- every command on such a member is refused
 abbrev pub RefusesMember : Schema → Leads → List ℕ → List ℕ → Refusal → List PageImage → Type 0

@@ -6,6 +6,7 @@ use Rattle.ostore_object_ops.specs.Bound.{bound_by, leads_of}
 use Rattle.ostore_object_ops.proofs.CommandFacts.{read_only}
 use Rattle.ostore_object_ops.proofs.LeadFacts.{leads_kept}
 use Rattle.ostore_object_ops.proofs.StepFacts.{Becomes-stay, homes_stay}
+use Rattle.ostore_segments.proofs.ViewLaws.{brings_nothing}
 use Rattle.ostore_object_ops.proofs.commands.run_set.Goals as goal
 
 pub returns-else-update-clause-lists : goal.returns-else-update-clause-lists
@@ -17,3 +18,6 @@ returns-else-update-clause-lists g c =
 
 pub returns-else-update-clause-passes : goal.returns-else-update-clause-passes
 returns-else-update-clause-passes g c = g.met.P.Pages.passes_at_once c.args.pages.now
+
+pub returns-else-update-clause-brings : goal.returns-else-update-clause-brings
+returns-else-update-clause-brings g c = brings_nothing

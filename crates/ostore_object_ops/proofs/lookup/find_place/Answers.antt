@@ -5,9 +5,11 @@ use Rattle.ostore_segments.specs.Holdings.{PagesTold}
 use Rattle.ostore_segments.proofs.ListSteps.{Stands-weaker, Becomes-stands, Becomes-sees}
 use Rattle.ostore_object_ops.specs.Bound.{leads_of}
 use Rattle.ostore_object_ops.specs.Means.{HasMeaning}
+use Rattle.ostore_object_ops.specs.Claiming.{IsObjectPage}
 use Rattle.ostore_object_ops.proofs.MemberFacts.{refuses_unbound, page_there, refuses_dead, refuses_missing, finds_member}
 use Rattle.ostore_object_ops.proofs.FindFacts.{sees, row_seen, row_found, some_of, has_place}
 use Rattle.ostore_object_ops.proofs.StepFacts.{Becomes-stay, not_true, not_false}
+use Rattle.ostore_segments.proofs.ViewLaws.{brings_nothing, brings_weaker}
 use Rattle.ostore_object_ops.proofs.lookup.find_place.Goals as goal
 
 pub returns-in_default-clause-lists : goal.returns-in_default-clause-lists
@@ -104,3 +106,30 @@ returns-clause-lists g c =
 
 pub returns-in_default-clause-passes : goal.returns-in_default-clause-passes
 returns-in_default-clause-passes g c = g.met.P.Pages.passes_at_once c.args.pages.now
+
+pub returns-in_default-clause-brings : goal.returns-in_default-clause-brings
+returns-in_default-clause-brings g c = brings_nothing
+
+pub returns-then-not-row-clause-brings : goal.returns-then-not-row-clause-brings
+returns-then-not-row-clause-brings g c =
+    let leads = leads_of (g.P.Pages.held c.args.pages.now) c.args.vars.now in
+    let low : c.offset_of-offset.result < 4096 = let is = c.offset_of-offset.ensures in omega arith in
+    let at : leads c.args.variable.now ≡ Some (Some (c.page_at-page.result.0 * 4096 + c.offset_of-offset.result)) =
+    ap (option_map (g.P.Pages.held c.args.pages.now).home) (sym c.in-Some.ensures) ∙ ap (λ (h : Option ℕ). Some h) c.page_at-page.ensures ∙ ap (λ (o : ℕ). Some (Some (c.page_at-page.result.0 * 4096 + o))) (sym c.offset_of-offset.ensures) in
+    brings_weaker (λ named same. subst (IsObjectPage leads c.args.variable.now) (sym same) (c.offset_of-offset.result, low, at)) c.in_ok-enter.ensures.brings
+
+pub returns-in_default-member_named-clause-brings : goal.returns-in_default-member_named-clause-brings
+returns-in_default-member_named-clause-brings g c =
+    let leads = leads_of (g.P.Pages.held c.args.pages.now) c.args.vars.now in
+    let low : c.offset_of-offset.result < 4096 = let is = c.offset_of-offset.ensures in omega arith in
+    let at : leads c.args.variable.now ≡ Some (Some (c.page_at-page.result.0 * 4096 + c.offset_of-offset.result)) =
+    ap (option_map (g.P.Pages.held c.args.pages.now).home) (sym c.in-Some.ensures) ∙ ap (λ (h : Option ℕ). Some h) c.page_at-page.ensures ∙ ap (λ (o : ℕ). Some (Some (c.page_at-page.result.0 * 4096 + o))) (sym c.offset_of-offset.ensures) in
+    brings_weaker (λ named same. subst (IsObjectPage leads c.args.variable.now) (sym same) (c.offset_of-offset.result, low, at)) c.in_ok-enter.ensures.brings
+
+pub returns-clause-brings : goal.returns-clause-brings
+returns-clause-brings g c =
+    let leads = leads_of (g.P.Pages.held c.args.pages.now) c.args.vars.now in
+    let low : c.offset_of-offset.result < 4096 = let is = c.offset_of-offset.ensures in omega arith in
+    let at : leads c.args.variable.now ≡ Some (Some (c.page_at-page.result.0 * 4096 + c.offset_of-offset.result)) =
+    ap (option_map (g.P.Pages.held c.args.pages.now).home) (sym c.in-Some.ensures) ∙ ap (λ (h : Option ℕ). Some h) c.page_at-page.ensures ∙ ap (λ (o : ℕ). Some (Some (c.page_at-page.result.0 * 4096 + o))) (sym c.offset_of-offset.ensures) in
+    brings_weaker (λ named same. subst (IsObjectPage leads c.args.variable.now) (sym same) (c.offset_of-offset.result, low, at)) c.in_ok-enter.ensures.brings

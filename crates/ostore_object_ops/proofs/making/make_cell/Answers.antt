@@ -1,11 +1,14 @@
-use Rattle.std.proofs.Common.{rules, ◌+◌, ◌∙◌, ℕ, ap, sym, subst, Ok, Err, inl, Some}
+use Rattle.std.proofs.Common.{rules, ◌+◌, ◌∙◌, ℕ, ap, sym, subst, Ok, Err, inl, inr, Some}
 use Rattle.ostore_segments.specs.declared.objects.NewCell.{NewCell}
 use Rattle.ostore_segments.specs.declared.placement.NoSpace.{NoSpace}
 use Rattle.ostore_segments.specs.Making.{IsObjectAsked, Makes}
 use Rattle.ostore_segments.specs.Placing.{FindsNone}
+use Rattle.ostore_segments.specs.Naming.{IsPageOf, IsWantedIn}
 use Rattle.ostore_segments.proofs.ListSteps.{Stands-now, Becomes-stands, Becomes-then, Becomes-weaker}
 use Rattle.ostore_object_ops.proofs.NewFacts.{new_type, IsMade, made_within}
 use Rattle.ostore_object_ops.proofs.StepFacts.{opened_change}
+use Rattle.ostore_segments.proofs.ViewLaws.{brings_on, each_then, breaks_at}
+use Rattle.ostore_segments.proofs.NamingLaws.{made_named, back_made, same_named}
 use Rattle.ostore_object_ops.proofs.making.make_cell.Goals as goal
 
 pub code_size-requires-clause-there : goal.code_size-requires-clause-there
@@ -60,3 +63,27 @@ returns-in_err-enter-clause-fails g c =
 
 pub returns-clause-passes : goal.returns-clause-passes
 returns-clause-passes g c = g.met.P.Pages.passes_on _ _ _ c.in_ok-cell.ensures.passes c.in_ok-enter.ensures.passes
+
+pub returns-in-Err-clause-brings : goal.returns-in-Err-clause-brings
+returns-in-Err-clause-brings g c = c.in_ok-cell.ensures.brings
+
+pub returns-clause-brings : goal.returns-clause-brings
+returns-clause-brings g c =
+    let is = new_type c.args.schema.now c.args.number c.requires.suits.lawful c.requires.ty in
+    let asked = subst (λ (n : ℕ). IsObjectAsked n c.args.number.0) (sym c.code_size.ensures) is.asked in
+    let opened = opened_change (λ (cell : NewCell) old new. Makes old new c.args.segment cell.page.0 c.code_size.result c.args.number.0 cell.serial cell.offset) (λ (lack : NoSpace) old new. FindsNone old new c.args.segment (c.code_size.result + 8)) c.in_ok-cell.field-0 (Ok c.in-Ok.cell) c.in-Ok.is c.in_ok-cell.ensures.lists in
+    let named = Becomes-stands {Q = λ list. IsPageOf list c.args.segment c.in-Ok.cell.page.0} c.requires.allocated
+    (λ old new fine makes. made_named old new c.args.segment c.in-Ok.cell.page.0 c.code_size.result c.args.number.0 c.in-Ok.cell.serial c.in-Ok.cell.offset fine asked.most c.requires.segment makes) opened in
+    each_then named c.in_ok-enter.ensures.lists (λ old new page known same was. same_named old new c.args.segment page same was) c.in_ok-cell.ensures.brings
+    (brings_on (Becomes-stands named (λ old new it same. subst (λ list. IsPageOf list c.args.segment c.in-Ok.cell.page.0) (sym same) it) c.in_ok-enter.ensures.lists)
+    (λ list page it same. inr (subst (IsPageOf list c.args.segment) (sym same) it)) c.in_ok-enter.ensures.brings)
+
+pub returns-in_err-enter-clause-stays : goal.returns-in_err-enter-clause-stays
+returns-in_err-enter-clause-stays g c =
+    let is = new_type c.args.schema.now c.args.number c.requires.suits.lawful c.requires.ty in
+    let asked = subst (λ (n : ℕ). IsObjectAsked n c.args.number.0) (sym c.code_size.ensures) is.asked in
+    let opened = opened_change (λ (cell : NewCell) old new. Makes old new c.args.segment cell.page.0 c.code_size.result c.args.number.0 cell.serial cell.offset) (λ (lack : NoSpace) old new. FindsNone old new c.args.segment (c.code_size.result + 8)) c.in_ok-cell.field-0 (Ok c.in-Ok.cell) c.in-Ok.is c.in_ok-cell.ensures.lists in
+    let failed = breaks_at {N = λ list. IsWantedIn list c.args.segment} c.requires.allocated opened c.in_ok-cell.ensures.brings
+    (λ old new page fine makes is. back_made old new c.args.segment c.in-Ok.cell.page.0 c.code_size.result c.args.number.0 c.in-Ok.cell.serial c.in-Ok.cell.offset page fine asked.most c.requires.segment makes is)
+    c.in_err-enter.ensures.stays in
+    search rules

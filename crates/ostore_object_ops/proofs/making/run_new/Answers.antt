@@ -1,6 +1,7 @@
-use Rattle.std.proofs.Common.{◌≡◌, ◌+◌, ◌∙◌, ℕ, ap, sym, subst, Ok, Err, Some, refl, true≢false}
+use Rattle.std.proofs.Common.{◌≡◌, ◌+◌, ◌∙◌, ℕ, true, List, ap, sym, subst, Ok, Err, Some, refl, true≢false, inl}
 use Rattle.std.specs.Prelude.{MatchResult, ⊤}
 use Rattle.std.proofs.Common.{Result}
+use Rattle.ostore_base.specs.declared.page.PageImage.{PageImage}
 use Rattle.ostore_schema_layout.specs.Cells.{code_size}
 use Rattle.ostore_schema_layout.specs.Numbers.{type_named}
 use Rattle.ostore_segments.specs.Holdings.{PagesTold}
@@ -8,12 +9,15 @@ use Rattle.ostore_segments.specs.declared.objects.NewCell.{NewCell}
 use Rattle.ostore_segments.specs.declared.placement.NoSpace.{NoSpace}
 use Rattle.ostore_segments.specs.Making.{Makes}
 use Rattle.ostore_segments.specs.Placing.{FindsNone}
+use Rattle.ostore_segments.specs.Naming.{IsNamedIn, IsWantedIn}
 use Rattle.ostore_segments.proofs.ListSteps.{Stands-seen, Stands-weaker, Becomes-changed}
 use Rattle.ostore_object_ops.specs.Bound.{bound_by, with_bound, leads_of}
 use Rattle.ostore_object_ops.specs.Suits.{Suits}
+use Rattle.ostore_object_ops.proofs.ClaimFacts.{made_kept}
 use Rattle.ostore_object_ops.proofs.LeadFacts.{leads_kept}
 use Rattle.ostore_object_ops.proofs.NewFacts.{new_type, new_wrong, new_spent, new_done, new_lacks}
 use Rattle.ostore_object_ops.proofs.StepFacts.{Becomes-stay, looked, opened_change, homes_stay, homes_then}
+use Rattle.ostore_segments.proofs.ViewLaws.{brings_nothing, each_weaker, each_then, breaks_weaker, breaks_seen}
 use Rattle.ostore_object_ops.proofs.making.run_new.Goals as goal
 
 pub returns-in_default-clause-lists : goal.returns-in_default-clause-lists
@@ -106,3 +110,29 @@ returns-in-Err-bind-clause-memory g c =
     (λ spent. true≢false (sym (seen.1 spent) ∙ c.if-spent.false)) known.means.valid.pages_kept.allocated makes homes (λ variable. refl) c.pointer_to.ensures in
     (done.does known.vars known.graph known.means).means.valid)
     opened
+
+-- what `new` may use, in an update
+abbrev Wanted : ℕ → List PageImage → ℕ → Type 0
+Wanted segment list page = (true ≡ true) × IsWantedIn list segment page
+
+pub returns-in_default-clause-brings : goal.returns-in_default-clause-brings
+returns-in_default-clause-brings g c = record { each = λ begun list there. brings_nothing }
+
+pub returns-then-spent-clause-brings : goal.returns-then-spent-clause-brings
+returns-then-spent-clause-brings g c = each_weaker (λ list page is. (refl, is)) c.in-Ok.ensures.brings
+
+pub returns-clause-brings : goal.returns-clause-brings
+returns-clause-brings g c =
+    let opened = opened_change (λ (cell : NewCell) old new. Makes old new c.args.segment cell.page.0 (code_size c.args.schema.now c.in-Some.number.0) c.in-Some.number.0 cell.serial cell.offset) (λ (lack : NoSpace) old new. FindsNone old new c.args.segment (code_size c.args.schema.now c.in-Some.number.0 + 8)) c.in-Ok-make_cell.made (Ok c.in-Ok-made.cell) c.in-Ok-made.is c.in-Ok-make_cell.ensures.lists in
+    each_weaker {M = λ list. IsNamedIn list c.args.segment} (λ list page is. (refl, is))
+    (each_then (Stands-seen c.requires.stands c.in-Ok.ensures.lists) opened
+    (λ old new page known makes is. made_kept old new c.args.segment c.in-Ok-made.cell.page.0 _ _ c.in-Ok-made.cell.serial c.in-Ok-made.cell.offset page c.requires.segment makes is)
+    c.in-Ok.ensures.brings c.in-Ok-make_cell.ensures.brings)
+
+pub returns-in-Err-clause-stays : goal.returns-in-Err-clause-stays
+returns-in-Err-clause-stays g c = breaks_weaker {N = Wanted c.args.segment} c.requires.stands (λ list page known is. (refl, inl is)) c.in-Err.ensures.stays
+
+pub returns-in-Err-make_cell-clause-stays : goal.returns-in-Err-make_cell-clause-stays
+returns-in-Err-make_cell-clause-stays g c =
+    breaks_seen {N = Wanted c.args.segment} c.in-Ok.ensures.lists (each_weaker (λ list page is. (refl, inl is)) c.in-Ok.ensures.brings)
+    (breaks_weaker {N = Wanted c.args.segment} (Stands-seen c.requires.stands c.in-Ok.ensures.lists) (λ list page known is. (refl, is)) c.in-Err-make_cell.ensures.stays)

@@ -43,3 +43,9 @@ returns-clause-lists g c =
 
 pub read_int-requires-clause-suits : goal.read_int-requires-clause-suits
 read_int-requires-clause-suits g c = subst (Suits c.args.schema.now) (sym c.in_ok-found.ensures.told) c.requires.suits
+
+pub returns-in-Err-clause-brings : goal.returns-in-Err-clause-brings
+returns-in-Err-clause-brings g c = c.in_ok-found.ensures.brings
+
+pub returns-clause-brings : goal.returns-clause-brings
+returns-clause-brings g c = c.in_ok-found.ensures.brings

@@ -1,4 +1,4 @@
-use Rattle.std.proofs.Common.{rules, ◌≡◌, ◌∙◌, ℤ, ap, sym, subst, Ok, Err, to_z, of_z}
+use Rattle.std.proofs.Common.{rules, ◌≡◌, ◌∙◌, ℕ, ℤ, ap, sym, subst, Result, Ok, Err, IfOk, to_z, of_z}
 use Rattle.std.specs.Int.{w64}
 use Rattle.std.proofs.lemmas.Int.{to_z-of_z}
 use Rattle.ostore_graph_model.specs.declared.refusal.Refusal.{Refusal}
@@ -8,9 +8,12 @@ use Rattle.ostore_object_ops.specs.declared.lookup.Found.{Found}
 use Rattle.ostore_object_ops.specs.Bound.{bound_by, leads_of}
 use Rattle.ostore_object_ops.specs.Suits.{Suits}
 use Rattle.ostore_object_ops.specs.inside.Members.{IsMember, RefusesMember, StoresInt}
+use Rattle.ostore_object_ops.specs.Claiming.{IsObjectPage}
 use Rattle.ostore_object_ops.proofs.CommandFacts.{set_refused, set_done, has_int}
 use Rattle.ostore_object_ops.proofs.LeadFacts.{leads_kept}
 use Rattle.ostore_object_ops.proofs.StepFacts.{opened, looked, homes_then}
+use Rattle.ostore_segments.proofs.ViewLaws.{rests_breaks, breaks_then}
+use Rattle.ostore_object_ops.proofs.ClaimFacts.{brings_none}
 use Rattle.ostore_object_ops.proofs.members.run_set_int.Goals as goal
 
 pub returns-in-Err-clause-lists : goal.returns-in-Err-clause-lists
@@ -57,3 +60,23 @@ returns-in_err-store_int-clause-fails g c =
 
 pub returns-clause-passes : goal.returns-clause-passes
 returns-clause-passes g c = g.met.P.Pages.passes_on _ _ _ c.in_ok-found.ensures.passes c.in_ok-store_int.ensures.passes
+
+-- a member that was found is on a page in view
+in_view : (P : ℕ → Type 0) (answer : Result Found Refusal) (found : Found) → answer ≡ Ok found → IfOk answer (λ (f : Found). P f.page.0) → P found.page.0
+in_view P answer found is there = subst (λ (r : Result Found Refusal). IfOk r (λ (f : Found). P f.page.0)) is there
+
+pub returns-in-Err-clause-brings : goal.returns-in-Err-clause-brings
+returns-in-Err-clause-brings g c = c.in_ok-found.ensures.brings
+
+pub returns-clause-brings : goal.returns-clause-brings
+returns-clause-brings g c = brings_none c.in-Ok.found.page.0 (in_view (g.P.Pages.held c.find_place.new.pages).in_view c.in_ok-found.field-0 c.in-Ok.found c.in-Ok.is c.in_ok-found.ensures.view) c.in_ok-found.ensures.brings c.in_ok-store_int.ensures.brings
+
+pub returns-in_err-found-clause-stays : goal.returns-in_err-found-clause-stays
+returns-in_err-found-clause-stays g c =
+    let failed = rests_breaks {N = λ list. IsObjectPage (leads_of (g.P.Pages.held c.args.pages.now) c.args.vars.now) c.args.object.now} c.in_err-found.ensures.stays in
+    search rules
+
+pub returns-in_err-store_int-clause-stays : goal.returns-in_err-store_int-clause-stays
+returns-in_err-store_int-clause-stays g c =
+    let failed = breaks_then c.in_ok-found.ensures.lists c.in_ok-found.ensures.brings (rests_breaks c.in_err-store_int.ensures.stays) in
+    search rules

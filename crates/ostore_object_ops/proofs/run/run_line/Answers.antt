@@ -3,7 +3,8 @@ use Rattle.std.specs.List.{slice_get}
 use Rattle.ostore_graph_model.specs.declared.commands.Command.{Command}
 use Rattle.ostore_segments.proofs.ListSteps.{Becomes-weaker, Becomes-known}
 use Rattle.ostore_object_ops.proofs.RunLaws.{item_at}
-use Rattle.ostore_object_ops.proofs.StepFacts.{no_space_map}
+use Rattle.ostore_object_ops.proofs.StepFacts.{no_space_map, stopped_map}
+use Rattle.ostore_object_ops.proofs.ClaimFacts.{line_sees, line_breaks}
 use Rattle.ostore_object_ops.proofs.run.run_line.Goals as goal
 
 pub returns-in-Err-clause-space : goal.returns-in-Err-clause-space
@@ -29,3 +30,10 @@ returns-clause-lists g c =
 pub returns-in-Err-push-clause-memory : goal.returns-in-Err-push-clause-memory
 returns-in-Err-push-clause-memory g c =
     Becomes-known c.requires.stands (λ old new known executes. (executes.does known.vars known.graph known.means).means.valid) c.in-Ok.ensures.lists
+
+pub returns-clause-sees : goal.returns-clause-sees
+returns-clause-sees g c = line_sees c.args.schema.now c.args.txn.now.update c.index-commands-place.result c.in-Ok.reply _ _ c.requires.stands c.in-Ok.ensures.lists c.in-Ok.ensures.brings
+
+pub returns-in-Err-clause-stays : goal.returns-in-Err-clause-stays
+returns-in-Err-clause-stays g c =
+    stopped_map _ _ _ _ c.in-Err.stop (λ fault breaks stays. line_breaks c.args.schema.now c.args.txn.now.update c.index-commands-place.result _ c.requires.stands (breaks stays)) (λ passed. passed) c.in-Err.ensures.stays

@@ -1,11 +1,11 @@
-use Rattle.std.proofs.Common.{◌≡◌, ◌+◌, List, ap, sym, subst, arith, length, ◌∙◌}
+use Rattle.std.proofs.Common.{◌≡◌, ◌+◌, ◌<◌, List, ap, sym, subst, arith, length, ◌∙◌}
 use Rattle.std.specs.Option.{option_map}
 use Rattle.ostore_graph_model.specs.declared.values.Reply.{Reply}
 use Rattle.ostore_segments.proofs.ListSteps.{Stands-now, Becomes-stands, Becomes-then, Becomes-weaker}
 use Rattle.ostore_object_ops.specs.Bound.{leads_of}
 use Rattle.ostore_object_ops.specs.Suits.{Suits, MayUpdate}
 use Rattle.ostore_object_ops.specs.Lines.{HasRun, Transacts}
-use Rattle.ostore_object_ops.proofs.RunLaws.{first_lines, next_lines, meanings, last_lines, one_more, lacks_growth}
+use Rattle.ostore_object_ops.proofs.RunLaws.{first_lines, next_lines, meanings, last_lines, one_more, lacks_growth, few_in_view}
 use Rattle.ostore_object_ops.proofs.StepFacts.{Becomes-stay, no_space_map, stopped_map, out_of_memory_map}
 use Rattle.ostore_object_ops.proofs.run.run_transaction.Goals as goal
 
@@ -17,6 +17,7 @@ loop-line-init g c = record {
       (first_lines c.args.schema.now c.args.txn.now (leads_of (g.P.Pages.held c.args.pages.now) c.new-progress.result.vars) list valid (λ variable. ap (option_map (g.P.Pages.held c.args.pages.now).home) (c.new-progress.ensures.vars variable))));
   counted = ap (λ (l : List Reply). length l) c.new-progress.ensures.replies;
   passes = g.met.P.Pages.passes_at_once c.args.pages.now;
+  sees = λ sees. sees;
   told = λ i. g.P.Pages.told c.args.pages.now;
 }
 
@@ -47,6 +48,7 @@ loop-line-preserved g c = record {
       let counted = c.loop-line.invariant.counted in
       omega arith;
   passes = g.met.P.Pages.passes_on _ _ _ c.loop-line.invariant.passes c.in-Ok.ensures.passes;
+  sees = λ sees. c.in-Ok.ensures.sees (c.loop-line.invariant.sees sees);
   told = c.in-Ok.ensures.told ∙ c.loop-line.invariant.told;
 }
 
@@ -79,3 +81,18 @@ returns-in-Err-clause-memory g c =
     out_of_memory_map _ _ c.in-Err.stop
     (λ valid. Becomes-weaker (λ old new there both. both.second) (Becomes-then c.loop-line.invariant.run valid))
     c.in-Err.ensures.memory
+
+pub returns-clause-sees : goal.returns-clause-sees
+returns-clause-sees g c = c.loop-line.invariant.sees
+
+pub returns-in-Err-clause-stays : goal.returns-in-Err-clause-stays
+returns-in-Err-clause-stays g c =
+    let counted = c.loop-line.invariant.counted in
+    let all = ap (λ l. length l) c.items-line-end.ensures in
+    let left : length c.loop-line.progress.replies.items < length c.args.txn.now.commands = omega arith in
+    stopped_map _ _ _ _ c.in-Err.stop
+    (λ fault breaks stays sees.
+    Becomes-weaker (λ old new there both. few_in_view c.args.schema.now c.args.txn.now c.loop-line.progress.replies.items _ old both.middle (g.P.Pages.held c.run_line.new.pages) both.first left both.second)
+    (Becomes-then c.loop-line.invariant.run (breaks stays (c.loop-line.invariant.sees sees))))
+    (λ passed. passed)
+    c.in-Err.ensures.stays
