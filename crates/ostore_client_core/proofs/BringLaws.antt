@@ -29,7 +29,7 @@ use Rattle.ostore_client_core.specs.Cells.{HasCellsOf}
 use Rattle.ostore_client_core.specs.Kinds.{graph_meaning}
 use Rattle.ostore_client_core.specs.Clients.{ClientView, with_pages, entry_of, stored_image, is_page_used, AreKnown, IsResident, IsAbsent, IsRetained, IsTied, IsTiedBy, IsOwn, AreUsedFirst}
 use Rattle.ostore_client_core.specs.Attempts.{seen, IsBase, Attempts, Narrows}
-use Rattle.ostore_client_core.specs.Calls.{Drops, IsFitPage, OwnsNoMore, Settles, Takes, trimmed}
+use Rattle.ostore_client_core.specs.Calls.{BringsPage, Drops, IsFitPage, OwnsNoMore, Settles, Takes, trimmed}
 use Rattle.ostore_client_core.proofs.EntryLaws.{Pages, none_some, some_of, held_there, hold_there, first_is, first_here, first_other, front_here, front_other, gone_here, gone_other, set_here, first_used, first_less}
 use Rattle.ostore_client_core.proofs.OldestLaws.{IsOldest}
 use Rattle.ostore_client_core.proofs.TiedLaws.{SameAt}
@@ -116,6 +116,15 @@ pub owned_before : (old new : ClientView) (before after : Side Entry) (other : �
 owned_before old new before after other (inl keeps) owned = sym (ap is_owned keeps.entry) ∙ owned
 owned_before old new before after other (inr idles) owned = absurd (idle_unowned (entry_of new other) idles.1 owned)
 
+-- and was in use before where it is now
+used_before : (old new : ClientView) (before after : Side Entry) (other : ℕ) → KeepsPage old new before after other ⊎ ((is_in_use (entry_of old other) ≡ false) × (is_in_use (entry_of new other) ≡ false)) → is_page_used new other → is_page_used old other
+used_before old new before after other (inl keeps) used = sym (ap is_in_use keeps.entry) ∙ used
+used_before old new before after other (inr idles) used = absurd (false≢true (sym idles.1 ∙ used))
+
+-- no page came into use
+pub brings_none : (client : ClientView) (page : ℕ) → BringsPage client client page
+brings_none client page = record { used = λ other used. inl used }
+
 module _ (serves later : Script → Type 0) (told now : Told Entry) (old new : ClientView) (page : ℕ) (entry : CachedPage) (h : Comes serves later told now old new page entry) where
   comes_on : GoesOn serves later told now old new
   comes_on = record {
@@ -145,6 +154,15 @@ module _ (serves later : Script → Type 0) (told now : Told Entry) (old new : C
     | inl same ↦ absurd (false≢true (sym (ap (λ (p : ℕ). is_owned (entry_of new p)) same ∙ ap is_owned h.here ∙ ap is_owner h.in_use) ∙ owned))
     | inr apart ↦ owned_before old new told.mine now.mine other (h.idle_others other apart) owned
   ]
+
+  -- no other page came into use
+  pub comes_brings : BringsPage old new page
+  comes_brings = record {
+    used = λ other used. elim (cases_eq other page) as (λ _. is_page_used old other ⊎ (other ≡ page)) [
+      | inl same ↦ inr same
+      | inr apart ↦ inl (used_before old new told.mine now.mine other (h.idle_others other apart) used)
+    ];
+  }
 
   pub comes_use : is_page_used new page
   comes_use = ap is_in_use h.here ∙ used_now
@@ -277,7 +295,7 @@ pub record HasTaken (mid new : ClientView) (page : ℕ) (image : PageImage) : Ty
   pub more : Extends mid new
   pub framed : (count : ℕ) → AreKnown count mid.frames.pages → AllByRecursion (λ (p : PageNo). p.0 < count) (pages_wanted mid.schema (record { 0 = page }) image.bytes) → AreKnown count new.frames.pages
 
-removed_set : (page : ℕ) (entry : CachedPage) (pages : Pages) → remove_entry (nat_eq page) (set_value (nat_eq page) pages entry) ≡ remove_entry (nat_eq page) pages
+pub removed_set : (page : ℕ) (entry : CachedPage) (pages : Pages) → remove_entry (nat_eq page) (set_value (nat_eq page) pages entry) ≡ remove_entry (nat_eq page) pages
 removed_set page entry [] = refl
 removed_set page entry (e ∷ pages) = elim (cases_eq page e.0) [
   | inl same ↦ rw (eq-eqb page e.0 same) (rw (eq-eqb page e.0 same) refl)

@@ -13,6 +13,7 @@ pub mod RoomLaws
 pub mod BringLaws
 pub mod TakeLaws
 pub mod NewLaws
+pub mod ArriveLaws
 pub mod OwnLaws
 pub mod BeginLaws
 pub mod StayLaws

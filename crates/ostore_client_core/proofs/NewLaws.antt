@@ -133,7 +133,7 @@ module _ (serves : Script → Type 0) (told : Told Entry) (old : ClientView) (pa
         let most = mid_most in
         omega arith
 
-    mid_rest : remove_entry (nat_eq page) mid.pages ≡ without_one (way old page) old.pages
+    pub mid_rest : remove_entry (nat_eq page) mid.pages ≡ without_one (way old page) old.pages
     mid_rest = ap (remove_entry (nat_eq page)) mid_pages ∙ ap (λ (b : Bool). cond b (without_one (way old page) old.pages) ((page, fresh) ∷ remove_entry (nat_eq page) (without_one (way old page) old.pages))) (eq-eqb page page refl)
 
     mid_first : AreUsedFirst (remove_entry (nat_eq page) mid.pages)

@@ -1,16 +1,17 @@
 -- A cache or frames that are full, and one more page: together they are pages of the database, and no two of them the same.
 use Rattle.std.proofs.Common.{◌≡◌, ◌≢◌, ◌⊎◌, ℕ, zero, suc, ◌-◌, ◌<◌, Bool, true, false, cond, eqb, nat_eq, List, [], ◌∷◌, length, map, get_or, set, Option, Some, None, refl, sym, ap, subst, ◌∙◌, arith, inl, inr}
 use Rattle.std.specs.Prelude.{IsSome, is_some, nat_lt}
-use Rattle.std.specs.List.{AllByRecursion, Contains, IsDistinct, list_any}
+use Rattle.std.specs.List.{AllByRecursion, AllPairs, Contains, IsDistinct, list_any}
 use Rattle.std.specs.Map.{lookup, keys_of}
 use Rattle.std.specs.Cmp.{nat_eq_equiv}
 use Rattle.std.proofs.lemmas.Bool.{cases_eq, cases_lt, eq-eqb, ne_eqb, eqb-true, lt-ltb, le-ltb, false≢true}
+use Rattle.std.proofs.lemmas.Bool.Decides.{Decides-eqb}
 use Rattle.std.proofs.lemmas.Grind.{get_or_default_zero}
 use Rattle.std.proofs.lemmas.List.{length-map, get_or-map, get_or-set_same, get_or-set_other}
 use Rattle.std.proofs.lemmas.List.Elements.{Contains-get_or}
 use Rattle.std.proofs.lemmas.Map.Entries.{lookup-filter-values, option_filter}
 use Rattle.std.proofs.lemmas.Map.Keys.{IsDistinct-from_apart, apart_from_distinct}
-use Rattle.std.proofs.lemmas.Map.Made.{IsDistinct-keys_filter}
+use Rattle.std.proofs.lemmas.Map.Made.{AllPairs-from_IsDistinct, IsDistinct-keys_filter}
 use Rattle.std.proofs.lemmas.Map.Steps.{length-le_from_distinct_below}
 use Rattle.std.proofs.lemmas.Map.Views.{Contains-from_any, IsSome-lookup_from_Contains}
 use Rattle.std.proofs.lemmas.Option.{same_Some}
@@ -69,6 +70,18 @@ module _ (pages : Pages) (distinct : IsDistinct nat_eq (keys_of pages)) where
       kept_by (λ e. is_used e.hold) (lookup (nat_eq q) pages)
       (subst IsSome (lookup-filter-values nat_eq_equiv (λ (e : CachedPage). is_used e.hold) q pages distinct)
       (IsSome-lookup_from_Contains nat_eq_equiv q (used_pages pages) (Contains-get_or (keys_of (used_pages pages)) i 0 short)))
+
+  -- each page that the pages in use have is in use
+  pub key_used : (page : ℕ) → Contains (keys_of (used_pages pages)) page → is_in_use (lookup (nat_eq page) pages) ≡ true
+  key_used page has =
+      let keys : List ℕ = keys_of (used_pages pages) in
+      let kept = used_at has.0 has.1 in
+      let here : get_or keys has.0 0 ≡ page = sym (get_or_default_zero keys has.0 page has.1) ∙ has.2 in
+      ap (λ (n : ℕ). is_in_use (lookup (nat_eq n) pages)) (sym here) ∙ ap is_in_use kept.is ∙ kept.passes
+
+  -- no two of them the same
+  pub keys_apart : AllPairs (λ page later. page ≢ later) (keys_of (used_pages pages))
+  keys_apart = AllPairs-from_IsDistinct Decides-eqb (keys_of (used_pages pages)) (IsDistinct-keys_filter nat_eq (λ (e : ℕ × CachedPage). is_used e.1.hold) pages distinct)
 
   -- the pages in use are fewer than those of the database, where one of those isn't in use
   pub used_below : (page count : ℕ) → is_in_use (lookup (nat_eq page) pages) ≡ false → page < count → ((q : ℕ) (entry : CachedPage) → lookup (nat_eq q) pages ≡ Some entry → q < count) → length (used_pages pages) < count

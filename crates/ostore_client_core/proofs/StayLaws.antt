@@ -14,11 +14,15 @@ use Rattle.ostore_client_core.specs.Clients.{ClientView, AreKnown, IsAbsent, IsO
 use Rattle.ostore_client_core.specs.Attempts.{Attempts, IsBase, MayBe, Narrows}
 use Rattle.ostore_client_core.specs.inside.Nothing.{MakesNothing}
 
--- the service is the same client's, of the same pages, and holds what it held
+-- another client's call: the service is the same client's, of the same pages, and holds what it held
 pub record Stays (told now : Told Entry) : Type 0 where
   pub client : now.client ≡ told.client
   pub opened : now.opened ≡ told.opened
   pub mine : Undisturbed told.mine now.mine
+
+-- a script of the schema is served
+abbrev pub ServesOne : (Script → Type 0) → Schema → Type 0
+ServesOne serves schema = (script : Script) × serves script × (script.schema ≡ schema)
 
 no_copy : (now before : Option PageImage) → ((image : PageImage) → now ≡ Some image → before ≡ Some image) → before ≡ None → now ≡ None
 no_copy None before kept none = refl
@@ -46,7 +50,7 @@ stays_tied : (stored : PageImage → PageImage) (a b : Side Entry) (page : ℕ) 
 stays_tied stored a b page None same tied = stays_absent same tied
 stays_tied stored a b page (Some entry) same tied = stays_by entry.hold (stored entry.image) a b page same tied
 
-pub stays_own : (serves later : Script → Type 0) (told now : Told Entry) (client : ClientView) → Stays told now → (script : Script) × later script × (script.schema ≡ client.schema) → IsOwn serves told client → IsOwn later now client
+pub stays_own : (serves later : Script → Type 0) (told now : Told Entry) (client : ClientView) → Stays told now → ServesOne later client.schema → IsOwn serves told client → IsOwn later now client
 stays_own serves later told now client stays script own = record {
   number = stays.client ∙ own.number;
   script = script;
@@ -75,7 +79,7 @@ base_before schema told now base stays is = record {
   agrees = λ page image held. is.agrees page image (stays.mine.held page ∙ held);
 }
 
-module _ (serves later : Script → Type 0) (told now : Told Entry) (client : ClientView) (stays : Stays told now) (script : (s : Script) × later s × (s.schema ≡ client.schema)) (runs : Attempts serves told client) where
+module _ (serves later : Script → Type 0) (told now : Told Entry) (client : ClientView) (stays : Stays told now) (script : ServesOne later client.schema) (runs : Attempts serves told client) where
   pub stays_running : Attempts later now client
   stays_running = record {
     own = stays_own serves later told now client stays script runs.own;

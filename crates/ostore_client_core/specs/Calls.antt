@@ -1,5 +1,5 @@
 -- What the calls of a client do.
-use Rattle.std.specs.Prelude.{◌≡◌, ◌↔◌, ◌<◌, ℕ, ◌+◌, ◌-◌, ◌*◌, ◌/◌, ◌%◌, ◌^◌, Bool, true, false, min, is_some, nat_eq, List, length, take, drop, option_and_then, Option, Some, None, IsSome}
+use Rattle.std.specs.Prelude.{◌≡◌, ◌⊎◌, ◌↔◌, ◌<◌, ℕ, ◌+◌, ◌-◌, ◌*◌, ◌/◌, ◌%◌, ◌^◌, Bool, true, false, min, is_some, nat_eq, List, length, take, drop, option_and_then, Option, Some, None, IsSome}
 use Rattle.std.specs.Option.{option_map}
 use Rattle.std.specs.List.{AllPairs, Contains}
 use Rattle.std.specs.Map.{remove_entry, set_value}
@@ -23,7 +23,7 @@ use Rattle.ostore_client_core.specs.declared.fault.AttemptFault.TheVariants.{Bus
 use Rattle.ostore_client_core.specs.declared.release.Ending.{Ending}
 use Rattle.ostore_client_core.specs.declared.release.Ending.TheVariants.{Committed, Aborted}
 use Rattle.ostore_client_core.specs.Cells.{HasCellsOf}
-use Rattle.ostore_client_core.specs.Clients.{ClientView, entry_of, with_pages}
+use Rattle.ostore_client_core.specs.Clients.{ClientView, entry_of, with_pages, is_page_used}
 
 -- what no call changes: the schema, how many pages there may be, whose frames they are and how many
 pub record SameClient (old new : ClientView) : Type 0 where
@@ -35,6 +35,10 @@ pub record SameClient (old new : ClientView) : Type 0 where
 -- each page that is owned was owned before
 abbrev pub OwnsNoMore : ClientView → ClientView → Type 0
 OwnsNoMore old new = (page : ℕ) → is_owned (entry_of new page) ≡ true → is_owned (entry_of old page) ≡ true
+
+-- each page that is in use was in use before, or is this one
+pub record BringsPage (old new : ClientView) (page : ℕ) : Type 0 where
+  pub used : (other : ℕ) → is_page_used new other → is_page_used old other ⊎ (other ≡ page)
 
 -- a count that stays at its type's end
 abbrev pub one_more : ℕ → ℕ

@@ -4,5 +4,6 @@ pub mod Cells
 pub mod Clients
 pub mod Attempts
 pub mod Calls
+pub mod Arrivals
 pub mod Commits
 pub mod inside

@@ -1,14 +1,15 @@
 //! What a client is asked by address.
 
-ghost use Rattle.std.specs.Prelude.{◌≡◌, ◌≤◌, ◌<◌, ◌+◌, ◌/◌, ◌%◌, true, nat_eq, length, IsSome, IfSome, IfErr, OnOk};
+ghost use Rattle.std.specs.Prelude.{◌≡◌, ◌≤◌, ◌<◌, ◌+◌, ◌/◌, ◌%◌, true, nat_eq, length, Err, IsSome, IfSome, IfErr, OnOk};
 ghost use Rattle.std.specs.Map.{set_value};
 ghost use Rattle.ostore_base.specs.declared.page.TheConstants.{PAGE_SIZE};
 ghost use Rattle.ostore_address_space.specs.Frames.{page_in};
 ghost use Rattle.ostore_page_service.specs.Told.{SameRecords, StillServes, NoBusy};
 ghost use Rattle.ostore_client_cache.specs.Entries.{is_owned, with_bytes};
 ghost use Rattle.ostore_client_core.specs.Clients.{entry_of, is_page_used, with_pages, IsOwn};
+ghost use Rattle.ostore_client_core.specs.Arrivals.{cache_full, Arrives, NeedsOneMore};
 ghost use Rattle.ostore_client_core.specs.Attempts.{Attempts, Narrows};
-ghost use Rattle.ostore_client_core.specs.Calls.{IsBusy, OwnsNoMore, OwnsPage, Refused, SameClient};
+ghost use Rattle.ostore_client_core.specs.Calls.{BringsPage, IsBusy, OwnsNoMore, OwnsPage, Refused, SameClient};
 
 use crate::client::Client;
 use crate::fault::AttemptFault;
@@ -45,12 +46,18 @@ impl<'a, M: Mapper> Client<'a, M> {
         ensures owned { OwnsNoMore self.old self.new }
         ensures used { IfSome (page_in self.old.frames.pages (address / 4096)) (λ page.
             OnOk result (is_page_used self.new page.0)) }
+        ensures brings { IfSome (page_in self.old.frames.pages (address / 4096)) (λ page.
+            OnOk result (BringsPage self.old self.new page.0)) }
         ensures calm { OnOk result (NoBusy (S.tells service.old) (S.tells service.new)) }
         ensures refused { IfSome (page_in self.old.frames.pages (address / 4096)) (λ page.
             IfErr result (λ fault. Refused fault self.old self.new page
             (S.tells service.old) (S.tells service.new))) }
         ensures same { SameRecords (S.tells service.old) (S.tells service.new) }
         ensures served { StillServes (S.serves service.old) (S.serves service.new) }
+        ensures arrives { IfSome (page_in self.old.frames.pages (address / 4096)) (λ page.
+            OnOk result (Arrives self.old self.new page.0)) }
+        ensures full { IfSome (page_in self.old.frames.pages (address / 4096)) (λ page.
+            NeedsOneMore self.old page.0 → result ≡ Err (cache_full self.old)) }
     {
         let Some(page) = self.page_at(address) else {
             unreachable!();

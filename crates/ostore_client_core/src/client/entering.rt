@@ -1,6 +1,6 @@
 //! Bringing pages into use.
 
-ghost use Rattle.std.specs.Prelude.{◌≡◌, ◌<◌, ◌*◌, ℕ, true, false, length, None, Some, IfOk, IfErr, OnOk, OnErr, IsSome};
+ghost use Rattle.std.specs.Prelude.{◌≡◌, ◌<◌, ◌*◌, ℕ, true, false, length, None, Some, Err, IfOk, IfErr, OnOk, OnErr, IsSome};
 ghost use Rattle.ostore_base.specs.Limits.{most_pages};
 ghost use Rattle.ostore_address_space.specs.Frames.{frame_of};
 ghost use Rattle.ostore_page_service.specs.Told.{SameRecords, StillServes, NoBusy};
@@ -8,8 +8,9 @@ ghost use Rattle.ostore_client_cache.specs.declared.entries.Hold.TheVariants.{Re
 ghost use Rattle.ostore_client_cache.specs.Entries.{hold_of, is_in_use};
 ghost use Rattle.ostore_client_cache.specs.Caches.{used_pages};
 ghost use Rattle.ostore_client_core.specs.Clients.{entry_of, is_page_used, IsOwn};
+ghost use Rattle.ostore_client_core.specs.Arrivals.{cache_full, Arrives, ComesFirst, NeedsOneMore};
 ghost use Rattle.ostore_client_core.specs.Attempts.{Attempts, Narrows};
-ghost use Rattle.ostore_client_core.specs.Calls.{IsFitPage, OwnsNoMore, SameClient, Takes, Loses, Refused, IsAddressOf};
+ghost use Rattle.ostore_client_core.specs.Calls.{BringsPage, IsFitPage, OwnsNoMore, SameClient, Takes, Loses, Refused, IsAddressOf};
 
 use crate::client::Client;
 use crate::fault::AttemptFault;
@@ -72,11 +73,13 @@ impl<'a, M: Mapper> Client<'a, M> {
         ensures same_client { SameClient self.old self.new }
         ensures owned { OwnsNoMore self.old self.new }
         ensures used { OnOk result (is_page_used self.new page.0) }
+        ensures brings { OnOk result (BringsPage self.old self.new page.0) }
         ensures calm { OnOk result (NoBusy (S.tells service.old) (S.tells service.new)) }
         ensures refused { IfErr result (λ fault. Refused fault self.old self.new page
             (S.tells service.old) (S.tells service.new)) }
         ensures same { SameRecords (S.tells service.old) (S.tells service.new) }
         ensures served { StillServes (S.serves service.old) (S.serves service.new) }
+        ensures first { OnOk result (ComesFirst self.old self.new page.0) }
     {
         self.pages_differ();
         let mut image = PageImage::zeroed();
@@ -111,11 +114,13 @@ impl<'a, M: Mapper> Client<'a, M> {
         ensures same_client { SameClient self.old self.new }
         ensures owned { OwnsNoMore self.old self.new }
         ensures used { OnOk result (is_page_used self.new page.0) }
+        ensures brings { OnOk result (BringsPage self.old self.new page.0) }
         ensures calm { OnOk result (NoBusy (S.tells service.old) (S.tells service.new)) }
         ensures refused { IfErr result (λ fault. Refused fault self.old self.new page
             (S.tells service.old) (S.tells service.new)) }
         ensures same { SameRecords (S.tells service.old) (S.tells service.new) }
         ensures served { StillServes (S.serves service.old) (S.serves service.new) }
+        ensures first { OnOk result (ComesFirst self.old self.new page.0) }
     {
         self.pages_differ();
         if self.admit(page).is_err() {
@@ -151,11 +156,14 @@ impl<'a, M: Mapper> Client<'a, M> {
         ensures same_client { SameClient self.old self.new }
         ensures owned { OwnsNoMore self.old self.new }
         ensures used { OnOk result (is_page_used self.new page.0) }
+        ensures brings { OnOk result (BringsPage self.old self.new page.0) }
         ensures calm { OnOk result (NoBusy (S.tells service.old) (S.tells service.new)) }
         ensures refused { IfErr result (λ fault. Refused fault self.old self.new page
             (S.tells service.old) (S.tells service.new)) }
         ensures same { SameRecords (S.tells service.old) (S.tells service.new) }
         ensures served { StillServes (S.serves service.old) (S.serves service.new) }
+        ensures arrives { OnOk result (Arrives self.old self.new page.0) }
+        ensures full { NeedsOneMore self.old page.0 → result ≡ Err (cache_full self.old) }
     {
         if self.cache.is_in_use(page) {
             return Ok(());
@@ -186,9 +194,9 @@ impl<'a, M: Mapper> Client<'a, M> {
         }
     }
 
-    /// Brings a page into use, and answers its frame's first address. It owns none. CacheFull comes exactly where the
-    /// pages in use are as many as there may be, and one more is needed; then no claim was made. Busy comes where
-    /// another client owns the page. Busy and want of memory leave the client as it was. SpaceFull comes after the
+    /// Brings a page into use, and no other one, and answers its frame's first address. It owns none. CacheFull comes
+    /// exactly where the pages in use are as many as there may be, and one more is needed; then no claim was made. Busy
+    /// comes where another client owns the page. Busy and want of memory leave the client as it was. SpaceFull comes after the
     /// claim: a page that the image needs has no frame, and none is free. The page was then fetched and released, and
     /// its copy dropped. Neither of the two comes where there is room for all pages of the database. Where the client
     /// has as many pages as there may be and hadn't this one, the retained page that was used least recently is
@@ -206,12 +214,15 @@ impl<'a, M: Mapper> Client<'a, M> {
         ensures same_client { SameClient self.old self.new }
         ensures owned { OwnsNoMore self.old self.new }
         ensures used { OnOk result (is_page_used self.new page.0) }
+        ensures brings { OnOk result (BringsPage self.old self.new page.0) }
         ensures calm { OnOk result (NoBusy (S.tells service.old) (S.tells service.new)) }
         ensures address { IfOk result (IsAddressOf self.new page.0) }
         ensures refused { IfErr result (λ fault. Refused fault self.old self.new page
             (S.tells service.old) (S.tells service.new)) }
         ensures same { SameRecords (S.tells service.old) (S.tells service.new) }
         ensures served { StillServes (S.serves service.old) (S.serves service.new) }
+        ensures arrives { OnOk result (Arrives self.old self.new page.0) }
+        ensures full { NeedsOneMore self.old page.0 → result ≡ Err (cache_full self.old) }
     {
         if let Err(fault) = self.bring(service, page) {
             return Err(fault);

@@ -22,7 +22,7 @@ use ostore_relocation::relocate_in;
 
 impl<'a, M: Mapper> Client<'a, M> {
     /// A law: no page is there twice.
-    pub(crate) fn pages_differ(&self)
+    pub fn pages_differ(&self)
         ensures { IsDistinct nat_eq (keys_of self.now.pages) }
     {
         self.cache.pages_differ();

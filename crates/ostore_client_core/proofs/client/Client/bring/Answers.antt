@@ -1,6 +1,9 @@
-use Rattle.std.proofs.Common.{rules, ◌≡◌, ◌≤◌, ◌<◌, length, refl, sym, subst, arith}
+use Rattle.std.proofs.Common.{rules, ◌≡◌, ◌≤◌, ◌<◌, true, length, refl, sym, ◌∙◌, subst, arith}
+use Rattle.std.proofs.lemmas.Bool.{false≢true}
 use Rattle.ostore_client_cache.specs.Caches.{used_pages}
-use Rattle.ostore_client_core.specs.Clients.{ClientView}
+use Rattle.ostore_client_cache.specs.Entries.{is_in_use}
+use Rattle.ostore_client_core.specs.Clients.{ClientView, entry_of}
+use Rattle.ostore_client_core.proofs.BringLaws.{brings_none}
 use Rattle.ostore_client_core.proofs.KeptLaws.{room_left}
 use Rattle.ostore_client_core.proofs.RoomLaws.{used_below}
 use Rattle.ostore_client_core.proofs.client.Client.bring.Goals as goal
@@ -17,6 +20,9 @@ bring_new-requires-clause-room g c =
     subst (λ (v : ClientView). length (used_pages v.pages) < v.most) c.self.view_is
     (room_left cache.pages cache.most c.if-is_full.ensures (subst (λ (v : ClientView). length v.pages ≤ v.most) (sym c.self.view_is) c.requires.runs.own.short))
 
+pub returns-then-is_in_use-clause-brings : goal.returns-then-is_in_use-clause-brings
+returns-then-is_in_use-clause-brings g c = brings_none c.args.self.now c.args.page.0
+
 pub returns-then-is_full-clause-refused : goal.returns-then-is_full-clause-refused
 returns-then-is_full-clause-refused g c =
     let client = c.args.self.now in
@@ -26,3 +32,15 @@ returns-then-is_full-clause-refused g c =
     let full : c.used.result ≡ c.most.result = search rules in
     let few : length (used_pages client.pages) < length told.opened = used_below client.pages c.pages_differ.ensures c.args.page.0 (length told.opened) (search rules) c.requires.known c.requires.runs.own.known in
     (refl, refl, used, most, full, omega arith)
+
+-- ---- a page that is in use already
+
+pub returns-then-is_in_use-clause-arrives : goal.returns-then-is_in_use-clause-arrives
+returns-then-is_in_use-clause-arrives g c =
+    let used : is_in_use (entry_of c.args.self.now c.args.page.0) ≡ true = search rules in
+    record { there = λ _. refl; first = λ idle. absurd (false≢true (sym idle ∙ used)) }
+
+pub returns-then-is_in_use-clause-full : goal.returns-then-is_in_use-clause-full
+returns-then-is_in_use-clause-full g c =
+    let used : is_in_use (entry_of c.args.self.now c.args.page.0) ≡ true = search rules in
+    λ needs. absurd (false≢true (sym needs.unused ∙ used))

@@ -12,7 +12,8 @@ use Rattle.ostore_client_core.specs.Clients.{ClientView, with_pages, IsOwn}
 use Rattle.ostore_client_core.specs.Calls.{Drops, IsFitPage}
 use Rattle.ostore_client_core.proofs.RecordLaws.{records_then, calm_then}
 use Rattle.ostore_client_core.proofs.GoesLaws.{same_client_of, same_client_is, own_still}
-use Rattle.ostore_client_core.proofs.BringLaws.{Comes, base_of, fit_of, wanted_of, owns_is, new_use, takes_use, comes_narrows, comes_owns}
+use Rattle.ostore_client_core.proofs.ArriveLaws.{new_first}
+use Rattle.ostore_client_core.proofs.BringLaws.{Comes, base_of, fit_of, wanted_of, owns_is, new_use, takes_use, comes_narrows, comes_owns, comes_brings}
 use Rattle.ostore_client_core.proofs.TakeLaws.{was_lost, lacks_frames}
 use Rattle.ostore_client_core.proofs.NewLaws.{Trims, IsLost, way, absent_is, may_drop, mid_schema, mid_frames, mid_fetches, mid_there, mid_room, new_taken, new_lost, admitted_ok, drops_calm, forgotten, admitted_idle}
 use Rattle.ostore_client_core.proofs.client.Client.bring_new.Given.{Over}
@@ -169,6 +170,11 @@ returns-in_default-clause-owned g c =
     let comes = came_on g c in
     comes_owns (g.S.PageClaims.serves c.args.service.now) (g.S.PageClaims.serves c.take.new.service) (g.S.PageClaims.tells c.args.service.now) (g.S.PageClaims.tells c.take.new.service) c.args.self.now c.take.new.self c.args.page.0 comes.0 comes.1
 
+pub returns-in_default-clause-brings : goal.returns-in_default-clause-brings
+returns-in_default-clause-brings g c =
+    let comes = came_on g c in
+    comes_brings (g.S.PageClaims.serves c.args.service.now) (g.S.PageClaims.serves c.take.new.service) (g.S.PageClaims.tells c.args.service.now) (g.S.PageClaims.tells c.take.new.service) c.args.self.now c.take.new.self c.args.page.0 comes.0 comes.1
+
 pub returns-in_default-clause-own : goal.returns-in_default-clause-own
 returns-in_default-clause-own g c = (taken_on g c).runs.own
 
@@ -196,3 +202,12 @@ returns-in_default-clause-calm g c =
     let use_is : InUse told claimed c.args.page.0 c.claim_read.new.into = new_use c.in-Ok.field-0 told claimed c.args.page.0 _ c.claim_read.new.into (absent_is (g.S.PageClaims.serves c.args.service.now) told old c.args.page.0 c.requires.runs c.requires.absent c.requires.room c.pages_differ.ensures).kept c.in-Ok.ensures.claimed in
     let drops : Drops (way old c.args.page.0) claimed dropped = subst (λ (v : ClientView). Drops (surplus v.pages v.most) claimed dropped) is c.trim.ensures.dropped in
     calm_then told claimed now use_is.calm (calm_then claimed dropped now (drops_calm (way old c.args.page.0) claimed dropped drops) c.in_default.ensures.calm)
+
+-- ---- the other pages
+
+pub returns-in_default-clause-first : goal.returns-in_default-clause-first
+returns-in_default-clause-first g c =
+    let told : Told Entry = g.S.PageClaims.tells c.args.service.now in
+    let old : ClientView = c.args.self.now in
+    let is : c.admit.new.self ≡ with_pages ((c.args.page.0, fresh) ∷ old.pages) old = admitted_ok _ c.admit.result c.admit.ensures.ok c.if-is_err.ensures.value in
+    new_first (g.S.PageClaims.serves c.args.service.now) told old c.args.page.0 c.requires.runs c.requires.absent c.requires.room c.pages_differ.ensures c.admit.new.self c.trim.new.self c.take.new.self c.claim_read.new.into (record { admitted_is = is; mid_is = c.trim.ensures.pages }) c.in_default.ensures.taken

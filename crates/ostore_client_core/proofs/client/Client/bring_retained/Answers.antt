@@ -9,11 +9,12 @@ use Rattle.ostore_graph_model.specs.declared.history.Entry.{Entry}
 use Rattle.ostore_client_core.specs.Clients.{ClientView, entry_of, stored_image, IsOwn}
 use Rattle.ostore_client_core.specs.Calls.{OwnsNoMore}
 use Rattle.ostore_client_cache.specs.declared.entries.CachedPage.{CachedPage}
+use Rattle.ostore_client_core.proofs.ArriveLaws.{kept_first, fetched_first}
 use Rattle.ostore_client_core.proofs.EntryLaws.{gone_here}
 use Rattle.ostore_client_core.proofs.RecordLaws.{records_then, calm_then}
 use Rattle.ostore_client_core.proofs.GoesLaws.{same_client_of, own_still}
 use Rattle.ostore_client_core.proofs.BeginLaws.{unheld}
-use Rattle.ostore_client_core.proofs.BringLaws.{Comes, base_of, fit_of, wanted_of, fetched_use, kept_use, kept_comes, comes_narrows, comes_owns, takes_use}
+use Rattle.ostore_client_core.proofs.BringLaws.{Comes, base_of, fit_of, wanted_of, fetched_use, kept_use, kept_comes, comes_narrows, comes_owns, comes_brings, takes_use}
 use Rattle.ostore_client_core.proofs.TakeLaws.{retained_idle, retained_taken, retained_lost, was_lost, lacks_frames, lost_known, lost_more, lost_pages}
 use Rattle.ostore_client_core.proofs.client.Client.bring_retained.Given.{Over}
 use Rattle.ostore_client_core.proofs.client.Client.bring_retained.Goals as goal
@@ -53,6 +54,11 @@ pub returns-in-Ok-Kept-clause-owned : goal.returns-in-Ok-Kept-clause-owned
 returns-in-Ok-Kept-clause-owned g c =
     let comes = kept_came g c in
     comes_owns (g.S.PageClaims.serves c.args.service.now) (g.S.PageClaims.serves c.claim_read.new.self) (g.S.PageClaims.tells c.args.service.now) (g.S.PageClaims.tells c.claim_read.new.self) c.args.self.now c.use_page.new.self c.args.page.0 comes.0 comes.1
+
+pub returns-in-Ok-Kept-clause-brings : goal.returns-in-Ok-Kept-clause-brings
+returns-in-Ok-Kept-clause-brings g c =
+    let comes = kept_came g c in
+    comes_brings (g.S.PageClaims.serves c.args.service.now) (g.S.PageClaims.serves c.claim_read.new.self) (g.S.PageClaims.tells c.args.service.now) (g.S.PageClaims.tells c.claim_read.new.self) c.args.self.now c.use_page.new.self c.args.page.0 comes.0 comes.1
 
 pub returns-in-Ok-Kept-clause-narrows : goal.returns-in-Ok-Kept-clause-narrows
 returns-in-Ok-Kept-clause-narrows g c = kept_on g c
@@ -154,6 +160,11 @@ returns-in_default-clause-owned g c =
     let comes = came_on g c in
     comes_owns (g.S.PageClaims.serves c.args.service.now) (g.S.PageClaims.serves c.take.new.service) (g.S.PageClaims.tells c.args.service.now) (g.S.PageClaims.tells c.take.new.service) c.args.self.now c.take.new.self c.args.page.0 comes.0 comes.1
 
+pub returns-in_default-clause-brings : goal.returns-in_default-clause-brings
+returns-in_default-clause-brings g c =
+    let comes = came_on g c in
+    comes_brings (g.S.PageClaims.serves c.args.service.now) (g.S.PageClaims.serves c.take.new.service) (g.S.PageClaims.tells c.args.service.now) (g.S.PageClaims.tells c.take.new.service) c.args.self.now c.take.new.self c.args.page.0 comes.0 comes.1
+
 pub returns-in_default-clause-own : goal.returns-in_default-clause-own
 returns-in_default-clause-own g c = (taken_on g c).runs.own
 
@@ -175,3 +186,11 @@ returns-in_default-clause-calm g c =
     let claimed : Told Entry = g.S.PageClaims.tells c.claim_read.new.self in
     let use_is : InUse told claimed c.args.page.0 c.claim_read.new.into = fetched_use c.in-Ok-Fetched.field-0 told claimed c.args.page.0 _ c.claim_read.new.into c.in-Ok-Fetched.field-0-is c.in-Ok-Fetched.ensures.claimed in
     calm_then told claimed (g.S.PageClaims.tells c.take.new.service) use_is.calm c.in_default.ensures.calm
+
+-- ---- the other pages
+
+pub returns-in-Ok-Kept-clause-first : goal.returns-in-Ok-Kept-clause-first
+returns-in-Ok-Kept-clause-first g c = kept_first c.args.self.now c.use_page.new.self c.args.page.0 c.requires.there c.use_page.ensures
+
+pub returns-in_default-clause-first : goal.returns-in_default-clause-first
+returns-in_default-clause-first g c = fetched_first c.args.self.now c.take.new.self c.args.page.0 c.claim_read.new.into c.requires.there c.in_default.ensures.taken
