@@ -2,6 +2,8 @@ pub mod CellPointers
 pub mod BridgeLaws
 pub mod StoreSteps
 pub mod PassLaws
+pub mod ViewLaws
+pub mod CrowdLaws
 pub mod HomeLaws
 pub mod AccessLaws
 pub mod AlikeLaws

@@ -1,7 +1,9 @@
 -- The lines of a transaction, executed in an attempt one by one.
-use Rattle.std.proofs.Common.{◌≡◌, ◌≤◌, ℕ, true, List, [], length, refl, sym, ap, subst, ◌∙◌}
+use Rattle.std.proofs.Common.{◌≡◌, ◌<◌, ◌≤◌, ℕ, true, nat_eq, List, [], length, refl, sym, ap, subst, ◌∙◌}
 use Rattle.std.specs.Prelude.{None, Result, Ok, Err, OnOk}
 use Rattle.std.specs.Option.{option_map}
+use Rattle.std.specs.List.{IsDistinct}
+use Rattle.std.specs.Map.{keys_of}
 use Rattle.ostore_base.specs.declared.page.PageImage.{PageImage}
 use Rattle.ostore_schema_layout.specs.declared.schema.Schema.{Schema}
 use Rattle.ostore_segments.specs.declared.placement.NoSpace.{NoSpace}
@@ -11,6 +13,7 @@ use Rattle.ostore_graph_model.specs.declared.values.Reply.{Reply}
 use Rattle.ostore_graph_model.specs.declared.commands.Script.{Script}
 use Rattle.ostore_graph_model.specs.declared.commands.Txn.{Txn}
 use Rattle.ostore_graph_model.specs.declared.history.Entry.{Entry}
+use Rattle.ostore_client_cache.specs.Caches.{used_pages}
 use Rattle.ostore_client_core.specs.Clients.{ClientView, IsIdle}
 use Rattle.ostore_client_core.specs.Attempts.{home_of, seen_list, Attempts, MayBe}
 use Rattle.ostore_client_core.proofs.SeenLaws.{nothing_made}
@@ -18,9 +21,11 @@ use Rattle.ostore_object_ops.specs.declared.progress.Progress.{Progress}
 use Rattle.ostore_object_ops.specs.Means.{HasMeaning}
 use Rattle.ostore_object_ops.specs.Progresses.{replies_of, bound_in, leads_by}
 use Rattle.ostore_object_ops.specs.Lines.{RunsLine, LacksLine, HasRun}
-use Rattle.ostore_object_ops.proofs.RunLaws.{first_lines, next_lines, meanings, last_lines, lacks_growth}
+use Rattle.ostore_object_ops.specs.Claiming.{SeesLinePages, SeesOneMore, BreaksLine}
+use Rattle.ostore_object_ops.proofs.RunLaws.{first_lines, next_lines, meanings, last_lines, lacks_growth, few_in_view}
 use Rattle.ostore_client_access.specs.Accesses.{access_held, Passes}
-use Rattle.ostore_client_access.specs.Attempts.{HasRunLines, AddsReply, FindsNoPlace, LacksOnEach, HasMade}
+use Rattle.ostore_client_access.specs.Attempts.{HasRunLines, AddsReply, FindsNoPlace, LacksOnEach, CrowdsOnEach, HasMade}
+use Rattle.ostore_client_access.proofs.CrowdLaws.{idle_sees, few_crowd}
 use Rattle.ostore_client_access.proofs.MadeLaws.{idle_owns, owns_nothing}
 
 pub no_line_ran : (a : Script → Type 0) (t : Told Entry) (x : ClientView) (txn : Txn) (progress : Progress) → Attempts a t x → IsIdle x → replies_of progress ≡ [] → ((variable : List ℕ) → bound_in progress variable ≡ None) → HasRunLines a t x txn progress
@@ -32,6 +37,7 @@ no_line_ran a t x txn progress runs idle none unbound = record {
       (subst (λ (replies : List Reply). HasRun x.schema txn replies (leads_by (access_held a t x) progress) base base) (sym none)
       (first_lines x.schema txn (leads_by (access_held a t x) progress) base may.began.valid (λ variable. ap (option_map (home_of x)) (unbound variable))));
   reads = λ reads. idle_owns x idle;
+  sees = idle_sees a t x txn.update idle;
 }
 
 pub lines_stand : (a : Script → Type 0) (t : Told Entry) (x : ClientView) (schema : Schema) (txn : Txn) (progress : Progress) → x.schema ≡ schema → HasRunLines a t x txn progress → Stands (access_held a t x) (HasMeaning schema (leads_by (access_held a t x) progress))
@@ -50,19 +56,20 @@ module _ (a b : Script → Type 0) (t u : Told Entry) (x y : ClientView) (schema
   ran_before : (base list : List PageImage) → MayBe a t x base list → HasRun schema txn (replies_of progress) (leads_by before progress) base list
   ran_before base list may = subst (λ (s : Schema). HasRun s txn (replies_of progress) (leads_by before progress) base list) same (lines.ran base list may)
 
-  line_ran : y.schema ≡ x.schema → Passes txn.update a b t u x y → Becomes before after (RunsLine schema txn (replies_of progress) (replies_of later) (leads_by before progress) (leads_by after later)) → HasRunLines b u y txn later
-  line_ran kept passed one = record {
+  line_ran : y.schema ≡ x.schema → Passes txn.update a b t u x y → Becomes before after (RunsLine schema txn (replies_of progress) (replies_of later) (leads_by before progress) (leads_by after later)) → (SeesLinePages txn.update before → SeesLinePages txn.update after) → HasRunLines b u y txn later
+  line_ran kept passed one saw = record {
     runs = one.some.2.runs;
     ran = λ base list may.
         let early = one.from base list may in
         subst (λ (s : Schema). HasRun s txn (replies_of later) (leads_by after later) base list) (sym (kept ∙ same))
         (next_lines schema txn (replies_of progress) (replies_of later) (leads_by before progress) (leads_by after later) base early.0 list (ran_before base early.0 early.1) early.2);
     reads = λ reads. owns_nothing txn.update a b t u x y passed reads (lines.reads reads);
+    sees = saw lines.sees;
   }
 
-  pub line_ok : {T F : Type 0} (r : Result T F) → y.schema ≡ x.schema → OnOk r (Passes txn.update a b t u x y) → OnOk r (Becomes before after (RunsLine schema txn (replies_of progress) (replies_of later) (leads_by before progress) (leads_by after later))) → OnOk r (HasRunLines b u y txn later)
-  line_ok (Ok value) kept passed one = line_ran kept passed one
-  line_ok (Err fault) kept passed one = one
+  pub line_ok : {T F : Type 0} (r : Result T F) → y.schema ≡ x.schema → OnOk r (Passes txn.update a b t u x y) → OnOk r (Becomes before after (RunsLine schema txn (replies_of progress) (replies_of later) (leads_by before progress) (leads_by after later))) → OnOk r (SeesLinePages txn.update before → SeesLinePages txn.update after) → OnOk r (HasRunLines b u y txn later)
+  line_ok (Ok value) kept passed one saw = line_ran kept passed one saw
+  line_ok (Err fault) kept passed one saw = one
 
   pub line_adds : {T F : Type 0} (r : Result T F) → OnOk r (Becomes before after (RunsLine schema txn (replies_of progress) (replies_of later) (leads_by before progress) (leads_by after later))) → OnOk r (AddsReply (replies_of progress) (replies_of later))
   line_adds (Ok value) one = (let line = (one.from one.some.0 one.some.1 one.some.2).2 in (line.reply, line.last))
@@ -75,6 +82,12 @@ module _ (a b : Script → Type 0) (t u : Told Entry) (x y : ClientView) (schema
         let early = one.from base (seen_list y base) (record { runs = one.some.2.runs; began = began; made = refl }) in
         lacks_growth schema txn (replies_of progress) (leads_by before progress) base early.0 lack (ran_before base early.0 early.1) early.2.1;
   }
+
+  -- a line that was broken off for a full cache
+  pub line_crowds : length (replies_of progress) < length txn.commands → IsDistinct nat_eq (keys_of y.pages) → (capacity : ℕ) → length (used_pages y.pages) ≡ capacity → BreaksLine txn.update before after → CrowdsOnEach b u y txn capacity
+  line_crowds left distinct capacity count one = few_crowd a b t u x y txn capacity distinct count (λ old new. SeesOneMore txn.update after old)
+      (λ base old list may saw. few_in_view schema txn (replies_of progress) (leads_by before progress) base old after (ran_before base old may) left saw)
+      one
 
   pub line_place : y.schema ≡ x.schema → (lack : NoSpace) → Becomes before after (Sees (LacksLine schema txn (replies_of progress) lack)) → FindsNoPlace b u y txn (replies_of progress) lack
   line_place kept lack one = λ base list may.

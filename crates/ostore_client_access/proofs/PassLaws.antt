@@ -15,7 +15,7 @@ use Rattle.ostore_client_core.specs.declared.fault.AttemptFault.{AttemptFault}
 use Rattle.ostore_client_core.specs.declared.fault.AttemptFault.TheVariants.{Busy, NoSpace, CacheFull, SpaceFull, Commit, OutOfMemory}
 use Rattle.ostore_client_core.specs.Clients.{ClientView, entry_of, with_pages, IsOwn}
 use Rattle.ostore_client_core.specs.Attempts.{Narrows}
-use Rattle.ostore_client_core.specs.Calls.{SameClient, IsAddressOf, IsBusy, Refused}
+use Rattle.ostore_client_core.specs.Calls.{BringsPage, SameClient, IsAddressOf, IsBusy, Refused}
 use Rattle.ostore_client_core.proofs.RecordLaws.{calm_refl}
 use Rattle.ostore_client_access.specs.Accesses.{MeetsAnother, Passes, Fails, Causes}
 use Rattle.ostore_client_access.specs.inside.Passing.{HasPassed, HasFailed}
@@ -116,9 +116,9 @@ owned_there (Some entry) is = (entry, refl, is)
 abbrev StoresAt : ClientView → ClientView → Option PageNo → ℕ → List ℕ → Type 0
 StoresAt y new found at bytes = IfSome found (λ p. IfSome (entry_of y p.0) (λ entry. new ≡ with_pages (set_value (nat_eq p.0) y.pages (with_bytes entry at bytes)) y))
 
-pub puts_into : (a b : Script → Type 0) (t u : Told Entry) (x y new : ClientView) (page address at moved : ℕ) (bytes : List ℕ) → moved ≡ at → Narrows a b t u x y → is_owned (entry_of y page) ≡ true → IsAddressOf y page address → at < 4096
+pub puts_into : (a b : Script → Type 0) (t u : Told Entry) (x y new : ClientView) (page address at moved : ℕ) (bytes : List ℕ) → moved ≡ at → Narrows a b t u x y → BringsPage x y page → is_owned (entry_of y page) ≡ true → IsAddressOf y page address → at < 4096
     → IfSome (page_in y.frames.pages ((address + moved) / 4096)) (λ p. IfSome (entry_of y p.0) (λ entry. new ≡ with_pages (set_value (nat_eq p.0) y.pages (with_bytes entry ((address + moved) % 4096) bytes)) y)) → PutsInto a b t u x new page at bytes
-puts_into a b t u x y new page address at moved bytes same narrows owned is low stores =
+puts_into a b t u x y new page address at moved bytes same narrows brings owned is low stores =
     let found = owned_there (entry_of y page) owned in
     let first = is.first in
     let frame : (address + moved) / 4096 ≡ address / 4096 = omega arith in
@@ -126,6 +126,7 @@ puts_into a b t u x y new page address at moved bytes same narrows owned is low 
     record {
       owned = y;
       narrows = narrows;
+      brings = brings;
       entry = found.0;
       there = found.1;
       owner = found.2;

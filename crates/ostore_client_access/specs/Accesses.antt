@@ -93,6 +93,15 @@ Causes updates OutOfMemory told now client = NoBusy told now
 Causes updates (NoSpace segment need) told now client = ⊥
 Causes updates (Commit fault) told now client = ⊥
 
+-- the faults that leave the client, and what the service tells, as they were: a full cache is found before all else
+abbrev pub Stays : AttemptFault → Type 0
+Stays (CacheFull used capacity) = Unit {0}
+Stays (Busy busy) = ⊥
+Stays (SpaceFull frames) = ⊥
+Stays OutOfMemory = ⊥
+Stays (NoSpace segment need) = ⊥
+Stays (Commit fault) = ⊥
+
 -- After a call that failed, where those before it were Ok: the service is still the client's own, so that the attempt
 -- can be aborted.
 pub record Fails (updates : Bool) (fault : AttemptFault) (serves later : Script → Type 0) (told now : Told Entry)

@@ -7,11 +7,16 @@ use Rattle.ostore_graph_model.specs.declared.values.Reply.{Reply}
 use Rattle.ostore_graph_model.specs.declared.commands.Script.{Script}
 use Rattle.ostore_graph_model.specs.declared.commands.Txn.{Txn}
 use Rattle.ostore_graph_model.specs.declared.history.Entry.{Entry}
+use Rattle.ostore_client_core.specs.declared.fault.AttemptFault.{AttemptFault}
+use Rattle.ostore_client_core.specs.declared.fault.AttemptFault.TheVariants as faults
 use Rattle.ostore_client_core.specs.Kinds.{Names}
 use Rattle.ostore_client_core.specs.Clients.{ClientView}
 use Rattle.ostore_client_core.specs.Attempts.{IsBase, Attempts, MayBe}
 use Rattle.ostore_client_core.specs.Commits.{FitsFor}
 use Rattle.ostore_object_ops.specs.declared.progress.Progress.{Progress}
+use Rattle.ostore_object_ops.specs.declared.stop.Stop.{Stop}
+use Rattle.ostore_object_ops.specs.Stops.{Stopped}
+use Rattle.ostore_object_ops.specs.Claiming.{SeesLinePages, IsBelowGrowth}
 use Rattle.ostore_object_ops.specs.Progresses.{replies_of, leads_by}
 use Rattle.ostore_object_ops.specs.Lines.{LacksLine, HasRun, Transacts, LacksGrowth}
 use Rattle.ostore_client_access.specs.Accesses.{access_held, OwnsNothing}
@@ -19,13 +24,14 @@ use Rattle.ostore_client_access.specs.Accesses.{access_held, OwnsNothing}
 -- ---- lines
 
 -- The lines that have a reply have run on whatever list the attempt may have begun on, and have made of it what the
--- attempt has made. Where the transaction only reads, the attempt owns no page.
+-- attempt has made. Where the transaction only reads, the attempt owns no page. Each page in use is one that its lines see.
 pub record HasRunLines (serves : Script → Type 0) (told : Told Entry) (client : ClientView) (txn : Txn)
     (progress : Progress) : Type 0 where
   pub runs : Attempts serves told client
   pub ran : (base list : List PageImage) → MayBe serves told client base list
       → HasRun client.schema txn (replies_of progress) (leads_by (access_held serves told client) progress) base list
   pub reads : txn.update ≡ false → OwnsNothing client
+  pub sees : SeesLinePages txn.update (access_held serves told client)
 
 -- there is one reply more, the last one
 abbrev pub AddsReply : List Reply → List Reply → Type 0
@@ -40,6 +46,28 @@ FindsNoPlace serves told client txn replies lack =
 pub record LacksOnEach (serves : Script → Type 0) (told : Told Entry) (client : ClientView) (txn : Txn) : Type 0 where
   pub runs : Attempts serves told client
   pub lacks : (base : List PageImage) → IsBase client.schema told base → LacksGrowth txn base
+
+-- ---- a full cache
+
+-- where a fault is that the cache is full, by how many pages it may have
+abbrev pub IfFull : (ℕ → Type 0) → AttemptFault → Type 0
+IfFull P (faults.CacheFull used capacity) = P capacity
+IfFull P (faults.Busy busy) = Unit {0}
+IfFull P (faults.SpaceFull frames) = Unit {0}
+IfFull P faults.OutOfMemory = Unit {0}
+IfFull P (faults.NoSpace segment need) = Unit {0}
+IfFull P (faults.Commit fault) = Unit {0}
+
+-- where commands stopped for it
+abbrev pub IfCacheFull : (ℕ → Type 0) → Stop AttemptFault → Type 0
+IfCacheFull P stop = Stopped stop (IfFull P) (Unit {0})
+
+-- on each list on which the attempt may have begun, so many pages are fewer than 2, its data pages, and those that the
+-- transaction may take, together
+pub record CrowdsOnEach (serves : Script → Type 0) (told : Told Entry) (client : ClientView) (txn : Txn) (capacity : ℕ)
+    : Type 0 where
+  pub runs : Attempts serves told client
+  pub below : (base : List PageImage) → IsBase client.schema told base → IsBelowGrowth txn base capacity
 
 -- ---- all lines
 

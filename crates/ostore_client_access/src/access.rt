@@ -21,7 +21,7 @@ pub struct Access<'c, 'a, M: Mapper, S> {
 
 impl<'c, 'a, M: Mapper, S: PageService<GraphKind>> Pages for Access<'c, 'a, M, S> {
     ghost use Rattle.std.specs.Prelude.{[], ◌∷◌};
-    ghost use Rattle.ostore_client_access.specs.Accesses.{access_told, access_held};
+    ghost use Rattle.ostore_client_access.specs.Accesses.{access_told, access_held, Stays};
     ghost use Rattle.ostore_client_access.specs.inside.Passing.{HasPassed, HasFailed, passed_refl, passed_then, failed_then};
 
     type Fault = AttemptFault;
@@ -38,6 +38,8 @@ impl<'c, 'a, M: Mapper, S: PageService<GraphKind>> Pages for Access<'c, 'a, M, S
     ghost fails = { λ a fault b. HasFailed a.updates b.updates fault (S.serves a.service.now)
         (S.serves b.service.now) (S.tells a.service.now) (S.tells b.service.now)
         a.client.now b.client.now };
+
+    ghost stays = { Stays };
 
     fn enter(&mut self, page: PageNo) -> Result<(), AttemptFault> {
         match enter_page(self.client, self.service, page) {

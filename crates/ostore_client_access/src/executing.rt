@@ -10,7 +10,7 @@ ghost use Rattle.ostore_object_ops.specs.Suits.{IsOfInts, IsBuilt};
 ghost use Rattle.ostore_object_ops.specs.Stops.{Stopped, IfNoSpace};
 ghost use Rattle.ostore_client_access.specs.Accesses.{Passes, Fails};
 ghost use Rattle.ostore_client_core.specs.Commits.{FitsClient};
-ghost use Rattle.ostore_client_access.specs.Attempts.{HasMade, IsEntryOf, FitsNamed, LacksOnEach};
+ghost use Rattle.ostore_client_access.specs.Attempts.{HasMade, IsEntryOf, FitsNamed, LacksOnEach, IfCacheFull, CrowdsOnEach};
 
 use crate::access::Access;
 use ostore_address_space::Mapper;
@@ -53,16 +53,21 @@ pub fn execute_on<M: Mapper, S: PageService<GraphKind>>(
         (S.tells access.new.service.now) access.old.client.now access.new.client.now)) }
     ensures space { IfErr result (IfNoSpace (λ no. LacksOnEach (S.serves access.new.service.now)
         (S.tells access.new.service.now) access.new.client.now txn.now)) }
+    ensures crowds { IfErr result (IfCacheFull (CrowdsOnEach (S.serves access.new.service.now)
+        (S.tells access.new.service.now) access.new.client.now txn.now)) }
     ensures names { access.new.client.ghost_name ≡ access.old.client.ghost_name }
     ensures service { access.new.service.ghost_name ≡ access.old.service.ghost_name }
     ensures client { SameClient access.old.client.now access.new.client.now }
 {
-    run_transaction(alloc, access, schema, txn)
+    let done = run_transaction(alloc, access, schema, txn);
+    access.client.pages_differ();
+    done
 }
 
 /// Executes the commands of a transaction in an attempt that has begun, and gives its replies. The schema is the
 /// client's, and the commands are of those that run. NoSpace comes only where fewer pages were free than the
-/// transaction may take. Where it stops, the attempt is to be aborted.
+/// transaction may take, and CacheFull only where the cache may have fewer pages than 2, the data pages and those that
+/// the transaction may take, together. Where it stops, the attempt is to be aborted.
 pub fn execute<M: Mapper, S: PageService<GraphKind>>(
     alloc: Global,
     client: &mut Client<'_, M>,
@@ -88,6 +93,8 @@ pub fn execute<M: Mapper, S: PageService<GraphKind>>(
         (Passes txn.now.update (S.serves service.old) (S.serves service.new)
         (S.tells service.old) (S.tells service.new) client.old client.new)) }
     ensures space { IfErr result (IfNoSpace (λ no. LacksOnEach (S.serves service.new)
+        (S.tells service.new) client.new txn.now)) }
+    ensures crowds { IfErr result (IfCacheFull (CrowdsOnEach (S.serves service.new)
         (S.tells service.new) client.new txn.now)) }
     ensures client { SameClient client.old client.new }
 {

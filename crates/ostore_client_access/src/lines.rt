@@ -10,7 +10,7 @@ ghost use Rattle.ostore_object_ops.specs.Progresses.{replies_of, bound_in};
 ghost use Rattle.ostore_object_ops.specs.Suits.{IsOfInts, IsBuilt};
 ghost use Rattle.ostore_object_ops.specs.Stops.{Stopped, IfNoSpace};
 ghost use Rattle.ostore_client_access.specs.Accesses.{Passes, Fails};
-ghost use Rattle.ostore_client_access.specs.Attempts.{HasRunLines, AddsReply, FindsNoPlace, LacksOnEach, HasMade};
+ghost use Rattle.ostore_client_access.specs.Attempts.{HasRunLines, AddsReply, FindsNoPlace, LacksOnEach, IfCacheFull, CrowdsOnEach, HasMade};
 
 use crate::access::Access;
 use ostore_address_space::Mapper;
@@ -54,6 +54,8 @@ pub(crate) fn execute_line_on<M: Mapper, S: PageService<GraphKind>>(
         (S.tells access.new.service.now) access.old.client.now access.new.client.now)) }
     ensures space { IfErr result (IfNoSpace (λ no. LacksOnEach (S.serves access.new.service.now)
         (S.tells access.new.service.now) access.new.client.now txn.now)) }
+    ensures crowds { IfErr result (IfCacheFull (CrowdsOnEach (S.serves access.new.service.now)
+        (S.tells access.new.service.now) access.new.client.now txn.now)) }
     ensures updates { IfErr result (IfNoSpace (λ no. txn.now.update ≡ true)) }
     ensures place { IfErr result (IfNoSpace (FindsNoPlace (S.serves access.new.service.now)
         (S.tells access.new.service.now) access.new.client.now txn.now
@@ -62,13 +64,16 @@ pub(crate) fn execute_line_on<M: Mapper, S: PageService<GraphKind>>(
     ensures service { access.new.service.ghost_name ≡ access.old.service.ghost_name }
     ensures client { SameClient access.old.client.now access.new.client.now }
 {
-    run_line(access, schema, txn, progress)
+    let done = run_line(access, schema, txn, progress);
+    access.client.pages_differ();
+    done
 }
 
 /// Executes the next line of a transaction in an attempt whose earlier lines have run, and adds its reply to the
 /// progress. The schema is the client's, and the commands are of those that run. NoSpace comes where the object of an
-/// update's line finds no place, and only where fewer pages were free than the transaction may take. Where it stops,
-/// the replies stay, and the attempt is to be aborted.
+/// update's line finds no place, and only where fewer pages were free than the transaction may take. CacheFull comes
+/// only where the cache may have fewer pages than 2, the data pages and those that the transaction may take, together.
+/// Where it stops, the replies stay, and the attempt is to be aborted.
 pub fn execute_line<M: Mapper, S: PageService<GraphKind>>(
     client: &mut Client<'_, M>,
     service: &mut S,
@@ -97,6 +102,8 @@ pub fn execute_line<M: Mapper, S: PageService<GraphKind>>(
         (Passes txn.now.update (S.serves service.old) (S.serves service.new)
         (S.tells service.old) (S.tells service.new) client.old client.new)) }
     ensures space { IfErr result (IfNoSpace (λ no. LacksOnEach (S.serves service.new)
+        (S.tells service.new) client.new txn.now)) }
+    ensures crowds { IfErr result (IfCacheFull (CrowdsOnEach (S.serves service.new)
         (S.tells service.new) client.new txn.now)) }
     ensures updates { IfErr result (IfNoSpace (λ no. txn.now.update ≡ true)) }
     ensures place { IfErr result (IfNoSpace (FindsNoPlace (S.serves service.new)

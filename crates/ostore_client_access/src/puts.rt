@@ -5,9 +5,9 @@ ghost use Rattle.ostore_base.specs.declared.page.TheConstants.{PAGE_SIZE};
 ghost use Rattle.ostore_client_cache.specs.Entries.{is_owned};
 ghost use Rattle.ostore_client_core.specs.Clients.{entry_of, is_page_used};
 ghost use Rattle.ostore_client_core.specs.Attempts.{Attempts, Narrows};
-ghost use Rattle.ostore_client_core.specs.Calls.{SameClient, IsAddressOf};
-ghost use Rattle.ostore_client_access.specs.Accesses.{Passes, Fails};
-ghost use Rattle.ostore_client_access.specs.inside.Puts.{PutsInto};
+ghost use Rattle.ostore_client_core.specs.Calls.{BringsPage, SameClient, IsAddressOf};
+ghost use Rattle.ostore_client_access.specs.Accesses.{Passes, Fails, Stays};
+ghost use Rattle.ostore_client_access.specs.inside.Puts.{AreAsBefore, PutsInto};
 
 use ostore_address_space::Mapper;
 use ostore_base::PageNo;
@@ -25,11 +25,14 @@ pub(crate) fn enter_page<M: Mapper, S: PageService<GraphKind>>(
     ensures narrows { OnOk result (Narrows (S.serves service.old) (S.serves service.new)
         (S.tells service.old) (S.tells service.new) client.old client.new) }
     ensures used { OnOk result (is_page_used client.new page.0) }
+    ensures brings { OnOk result (BringsPage client.old client.new page.0) }
     ensures address { IfOk result (IsAddressOf client.new page.0) }
     ensures passes { OnOk result (Passes false (S.serves service.old) (S.serves service.new)
         (S.tells service.old) (S.tells service.new) client.old client.new) }
     ensures fails { IfErr result (λ fault. Fails false fault (S.serves service.old)
         (S.serves service.new) (S.tells service.old) (S.tells service.new) client.old client.new) }
+    ensures stays { IfErr result (λ fault. Stays fault
+        → AreAsBefore (S.tells service.old) (S.tells service.new) client.old client.new) }
     ensures client { SameClient client.old client.new }
     ensures writer { (S.tells service.new).may_write ≡ (S.tells service.old).may_write }
 {
@@ -48,11 +51,14 @@ pub(crate) fn own_page<M: Mapper, S: PageService<GraphKind>>(
     ensures narrows { OnOk result (Narrows (S.serves service.old) (S.serves service.new)
         (S.tells service.old) (S.tells service.new) client.old client.new) }
     ensures owned { OnOk result (is_owned (entry_of client.new page.0) ≡ true) }
+    ensures brings { OnOk result (BringsPage client.old client.new page.0) }
     ensures address { IfOk result (IsAddressOf client.new page.0) }
     ensures passes { OnOk result (Passes true (S.serves service.old) (S.serves service.new)
         (S.tells service.old) (S.tells service.new) client.old client.new) }
     ensures fails { IfErr result (λ fault. Fails true fault (S.serves service.old)
         (S.serves service.new) (S.tells service.old) (S.tells service.new) client.old client.new) }
+    ensures stays { IfErr result (λ fault. Stays fault
+        → AreAsBefore (S.tells service.old) (S.tells service.new) client.old client.new) }
     ensures client { SameClient client.old client.new }
     ensures writer { (S.tells service.new).may_write ≡ (S.tells service.old).may_write }
 {
@@ -85,6 +91,8 @@ pub(crate) fn put<M: Mapper, S: PageService<GraphKind>>(
         (S.tells service.old) (S.tells service.new) client.old client.new) }
     ensures fails { IfErr result (λ fault. Fails true fault (S.serves service.old)
         (S.serves service.new) (S.tells service.old) (S.tells service.new) client.old client.new) }
+    ensures stays { IfErr result (λ fault. Stays fault
+        → AreAsBefore (S.tells service.old) (S.tells service.new) client.old client.new) }
     ensures client { SameClient client.old client.new }
     ensures writer { (S.tells service.new).may_write ≡ (S.tells service.old).may_write }
 {

@@ -51,7 +51,7 @@ used_then t u page same met = λ tells.
     let apart : other.0 ≢ t.client = λ e. other.2 (e ∙ sym same.service.client) in
     (other.0, other.1, apart, subst IsSome ((same.service.others other.0 other.1 apart).held page) other.3)
 
-meets_then : (updates : Bool) (t u : Told Entry) (page : ℕ) → SameRecords t u → MeetsAnother updates u page → MeetsAnother updates t page
+pub meets_then : (updates : Bool) (t u : Told Entry) (page : ℕ) → SameRecords t u → MeetsAnother updates u page → MeetsAnother updates t page
 meets_then updates t u page same (inl owned) = inl (owned_then t u page same owned)
 meets_then updates t u page same (inr used) = inr (used.0, used_then t u page same used.1)
 

@@ -1,8 +1,9 @@
-use Rattle.std.proofs.Common.{length, sym, ◌∙◌, arith}
+use Rattle.std.proofs.Common.{true, length, sym, ◌∙◌, arith}
 use Rattle.std.proofs.lemmas.Bool.{eqb-true}
-use Rattle.ostore_client_access.proofs.AccessLaws.{stands_range, becomes_none}
+use Rattle.ostore_client_access.proofs.AccessLaws.{stands_runs, stands_range, becomes_none}
 use Rattle.ostore_client_access.proofs.EditLaws.{edited, ok_map, some_bytes}
 use Rattle.ostore_client_access.proofs.PassLaws.{holder_updates, holder_writes, holder_passed, holder_failed}
+use Rattle.ostore_client_access.proofs.ViewLaws.{puts_view, holder_rests, brings_none}
 use Rattle.ostore_client_access.proofs.access.AccessPages.edit.Goals as goal
 
 pub returns-then-is_empty-clause-lists : goal.returns-then-is_empty-clause-lists
@@ -38,3 +39,12 @@ returns-clause-passes g c = holder_passed c.args.self.now.updates (g.S.PageClaim
 pub returns-clause-fails : goal.returns-clause-fails
 returns-clause-fails g c = holder_failed c.args.self.now.updates (g.S.PageClaims.serves c.args.self.now.service.now) (g.S.PageClaims.serves c.put.new.service) (g.S.PageClaims.tells c.args.self.now.service.now) (g.S.PageClaims.tells c.put.new.service) c.args.self.now.client.now c.put.new.client c.put.result
     (holder_updates _ _ c.requires.may) c.put.ensures.fails
+
+pub returns-then-is_empty-clause-brings : goal.returns-then-is_empty-clause-brings
+returns-then-is_empty-clause-brings g c = brings_none (g.S.PageClaims.serves c.args.self.now.service.now) (g.S.PageClaims.tells c.args.self.now.service.now) c.args.self.now.client.now c.args.page.0
+
+pub returns-clause-brings : goal.returns-clause-brings
+returns-clause-brings g c = ok_map _ _ c.put.result (puts_view (g.S.PageClaims.serves c.args.self.now.service.now) (g.S.PageClaims.serves c.put.new.service) (g.S.PageClaims.tells c.args.self.now.service.now) (g.S.PageClaims.tells c.put.new.service) c.args.self.now.client.now c.put.new.client c.args.page.0 c.args.at c.args.bytes.now (stands_runs _ _ _ c.requires.puts)) c.put.ensures.puts
+
+pub returns-clause-stays : goal.returns-clause-stays
+returns-clause-stays g c = holder_rests true (g.S.PageClaims.serves c.args.self.now.service.now) (g.S.PageClaims.serves c.put.new.service) (g.S.PageClaims.tells c.args.self.now.service.now) (g.S.PageClaims.tells c.put.new.service) c.args.self.now.client.now c.put.new.client c.put.result (stands_runs _ _ _ c.requires.puts) c.put.ensures.fails c.put.ensures.stays

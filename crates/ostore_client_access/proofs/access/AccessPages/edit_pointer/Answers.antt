@@ -1,8 +1,9 @@
-use Rattle.std.proofs.Common.{length, ap, ◌∙◌, arith}
+use Rattle.std.proofs.Common.{true, length, ap, ◌∙◌, arith}
 use Rattle.byteorder.specs.Numbers.{length-bytes_low_first}
-use Rattle.ostore_client_access.proofs.AccessLaws.{stands_range}
+use Rattle.ostore_client_access.proofs.AccessLaws.{stands_runs, stands_range}
 use Rattle.ostore_client_access.proofs.EditLaws.{pointed, ok_map}
 use Rattle.ostore_client_access.proofs.PassLaws.{holder_updates, holder_writes, holder_passed, holder_failed}
+use Rattle.ostore_client_access.proofs.ViewLaws.{puts_view, holder_rests}
 use Rattle.ostore_client_access.proofs.access.AccessPages.edit_pointer.Goals as goal
 
 pub put-requires-clause-known : goal.put-requires-clause-known
@@ -35,3 +36,9 @@ returns-clause-passes g c = holder_passed c.args.self.now.updates (g.S.PageClaim
 pub returns-clause-fails : goal.returns-clause-fails
 returns-clause-fails g c = holder_failed c.args.self.now.updates (g.S.PageClaims.serves c.args.self.now.service.now) (g.S.PageClaims.serves c.put.new.service) (g.S.PageClaims.tells c.args.self.now.service.now) (g.S.PageClaims.tells c.put.new.service) c.args.self.now.client.now c.put.new.client c.put.result
     (holder_updates _ _ c.requires.may) c.put.ensures.fails
+
+pub returns-clause-brings : goal.returns-clause-brings
+returns-clause-brings g c = ok_map _ _ c.put.result (puts_view (g.S.PageClaims.serves c.args.self.now.service.now) (g.S.PageClaims.serves c.put.new.service) (g.S.PageClaims.tells c.args.self.now.service.now) (g.S.PageClaims.tells c.put.new.service) c.args.self.now.client.now c.put.new.client c.args.page.0 c.args.at _ (stands_runs _ _ _ c.requires.there)) c.put.ensures.puts
+
+pub returns-clause-stays : goal.returns-clause-stays
+returns-clause-stays g c = holder_rests true (g.S.PageClaims.serves c.args.self.now.service.now) (g.S.PageClaims.serves c.put.new.service) (g.S.PageClaims.tells c.args.self.now.service.now) (g.S.PageClaims.tells c.put.new.service) c.args.self.now.client.now c.put.new.client c.put.result (stands_runs _ _ _ c.requires.there) c.put.ensures.fails c.put.ensures.stays
