@@ -1,11 +1,11 @@
 -- The lines of an attempt, one after the other.
-use Rattle.std.proofs.Common.{◌≡◌, ◌≢◌, ℕ, ◌+◌, ◌<◌, ◌++◌, ◌∷◌, [], List, Bool, true, false, length, Option, None, Some, inl, inr, sym, ap, subst, ◌∙◌, arith}
-use Rattle.std.specs.Prelude.{IsSome, All}
+use Rattle.std.proofs.Common.{◌≡◌, ℕ, ◌+◌, ◌<◌, ◌++◌, ◌∷◌, [], List, Bool, true, false, length, Option, None, Some, sym, ap, subst, ◌∙◌, arith}
+use Rattle.std.specs.Prelude.{All}
 use Rattle.std.specs.Option.{option_map}
 use Rattle.ostore_base.specs.Faults.{Rose}
 use Rattle.ostore_base.specs.declared.page.PageImage.{PageImage}
 use Rattle.ostore_schema_layout.specs.declared.schema.Schema.{Schema}
-use Rattle.ostore_page_service.specs.Told.{Told, SameRecords, Numbers, DiskCounts, MayCome, faults_after, OwnedByAnother, UsedByAnother}
+use Rattle.ostore_page_service.specs.Told.{Told, SameRecords, Numbers, DiskCounts, MayCome, faults_after}
 use Rattle.ostore_graph_model.specs.declared.values.Reply.{Reply}
 use Rattle.ostore_graph_model.specs.declared.commands.Txn.{Txn}
 use Rattle.ostore_graph_model.specs.declared.commands.Script.{Script}
@@ -16,11 +16,10 @@ use Rattle.ostore_client_core.specs.declared.fault.AttemptFault.TheVariants.{Bus
 use Rattle.ostore_client_core.specs.Clients.{ClientView, IsIdle, IsOwn}
 use Rattle.ostore_client_core.specs.Calls.{SameClient}
 use Rattle.ostore_client_core.proofs.RecordLaws.{service_then, records_refl, records_then, calm_refl, calm_then}
-use Rattle.ostore_client_access.specs.Accesses.{MeetsAnother}
-use Rattle.ostore_client_access.specs.inside.Passing.{client_refl, client_then}
+use Rattle.ostore_client_access.specs.inside.Passing.{client_refl, client_then, meets_then}
 use Rattle.ostore_transactions.specs.declared.attempt.Attempt.{Attempt}
 use Rattle.ostore_transactions.specs.Attempts.{line_at, line_in, HasTxn, IsAt, IsWith}
-use Rattle.ostore_transactions.specs.Causes.{IsCause, LacksPages, FindsNoPlace, NoFaults}
+use Rattle.ostore_transactions.specs.Causes.{IsCause, LacksPages, CrowdsPages, FindsNoPlace, NoFaults}
 use Rattle.ostore_transactions.specs.Lines.{entry_by, IsGoing, IsCommitted, IsAborted, HasFailed}
 use Rattle.ostore_transactions.specs.Ends.{HasCommitted, HasAborted, HasGivenUp}
 use Rattle.ostore_transactions.specs.inside.Going.{GoesOn, HasGone}
@@ -104,27 +103,14 @@ whole_aborted a b c t u v x y z txn line attempt goes one = record {
 
 -- ---- the line that fails
 
-owned_then : (t u : Told Entry) (page : ℕ) → SameRecords t u → OwnedByAnother u page → OwnedByAnother t page
-owned_then t u page same met = λ tells.
-    let other = met (same.service.tells_others ∙ tells) in
-    let apart : other.0 ≢ t.client = λ e. other.2 (e ∙ sym same.service.client) in
-    (other.0, other.1, apart, sym ((same.service.others other.0 other.1 apart).owned page) ∙ other.3)
-
-used_then : (t u : Told Entry) (page : ℕ) → SameRecords t u → UsedByAnother u page → UsedByAnother t page
-used_then t u page same met = λ tells.
-    let other = met (same.service.tells_others ∙ tells) in
-    let apart : other.0 ≢ t.client = λ e. other.2 (e ∙ sym same.service.client) in
-    (other.0, other.1, apart, subst IsSome ((same.service.others other.0 other.1 apart).held page) other.3)
-
-meets_then : (updates : Bool) (t u : Told Entry) (page : ℕ) → SameRecords t u → MeetsAnother updates u page → MeetsAnother updates t page
-meets_then updates t u page same (inl owned) = inl (owned_then t u page same owned)
-meets_then updates t u page same (inr used) = inr (used.0, used_then t u page same used.1)
-
 faults_then : (t u v : Told Entry) → SameRecords t u → NoFaults u v → NoFaults t v
 faults_then t u v same one = record { faults = one.faults ∙ same.faults; disk_faults = one.disk_faults ∙ same.disk_faults }
 
 lacks_then : (script : Script) (t u : Told Entry) (txn : Txn) → SameRecords t u → LacksPages script u txn → LacksPages script t txn
 lacks_then script t u txn same one = record { number = one.number; list = one.list; reached = reached_as script t u one.number one.list same one.reached; lacks = one.lacks }
+
+crowds_then : (script : Script) (t u : Told Entry) (txn : Txn) (capacity : ℕ) → SameRecords t u → CrowdsPages script u txn capacity → CrowdsPages script t txn capacity
+crowds_then script t u txn capacity same one = record { number = one.number; list = one.list; reached = reached_as script t u one.number one.list same one.reached; below = one.below }
 
 below_then : (t u : Told Entry) (n : ℕ) → SameRecords t u → n < length u.opened → n < length t.opened
 below_then t u n same less = subst (λ (l : List PageImage). n < length l) same.service.opened less
@@ -145,8 +131,14 @@ cause_then a b t u v x y txn (NoSpace segment need) goes why = (
   faults_then t u v goes.same why.3,
   subst (λ (s : Schema). FindsNoPlace s txn (record { segment = segment; need = need })) goes.client.schema why.4,
 )
-cause_then a b t u v x y txn (CacheFull used capacity) goes why =
-    (why.0, why.1 ∙ goes.client.most, below_then t u capacity goes.same why.2, calm_then t u v goes.calm why.3, faults_then t u v goes.same why.4)
+cause_then a b t u v x y txn (CacheFull used capacity) goes why = (
+  why.0,
+  why.1 ∙ goes.client.most,
+  below_then t u capacity goes.same why.2,
+  λ script serving schema. crowds_then script t u txn capacity goes.same (why.3 script (goes.served script serving) (schema ∙ sym goes.client.schema)),
+  calm_then t u v goes.calm why.4,
+  faults_then t u v goes.same why.5,
+)
 cause_then a b t u v x y txn (SpaceFull frames) goes why = (why.0 ∙ goes.client.frames, below_then t u frames goes.same why.1, calm_then t u v goes.calm why.2, faults_then t u v goes.same why.3)
 cause_then a b t u v x y txn (Commit fault) goes why = (
   record {

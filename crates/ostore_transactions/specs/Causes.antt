@@ -19,6 +19,7 @@ use Rattle.ostore_client_core.specs.Kinds.{graph_meaning}
 use Rattle.ostore_client_core.specs.Clients.{ClientView}
 use Rattle.ostore_client_access.specs.Accesses.{MeetsAnother}
 use Rattle.ostore_object_ops.specs.Lines.{LacksLine, LacksGrowth}
+use Rattle.ostore_object_ops.specs.Claiming.{IsBelowGrowth}
 use Rattle.ostore_transactions.specs.Attempts.{last_line}
 
 -- ---- the line at which a fault comes
@@ -50,6 +51,14 @@ pub record LacksPages (script : Script) (told : Told Entry) (txn : Txn) : Type 0
   pub reached : IsReached graph_meaning script told.first told.opened told.client told.mine.records number list
   pub lacks : LacksGrowth txn list
 
+-- A legal history of the script leads to a list on which the transaction may use more pages than so many: these are fewer
+-- than 2, the list's data pages and the transaction's growth together.
+pub record CrowdsPages (script : Script) (told : Told Entry) (txn : Txn) (capacity : ℕ) : Type 0 where
+  pub number : ℕ
+  pub list : List PageImage
+  pub reached : IsReached graph_meaning script told.first told.opened told.client told.mine.records number list
+  pub below : IsBelowGrowth txn list capacity
+
 -- a command of the transaction makes an object that finds no place on some list of pages
 abbrev pub FindsNoPlace : Schema → Txn → Lack → Type 0
 FindsNoPlace schema txn lack = (replies : List Reply) × (list : List PageImage) × LacksLine schema txn replies lack list
@@ -77,7 +86,8 @@ pub record SameHistory (told now : Told Entry) : Type 0 where
 
 module _ (serves : Script → Type 0) (told now : Told Entry) (client : ClientView) (txn : Txn) where
   -- Busy was answered by the service, once; with every other fault none came. All pages that the cache may have are in use,
-  -- or all frames reserved, only where these are fewer than the pages of the database.
+  -- or all frames reserved, only where these are fewer than the pages of the database; and all pages of the cache only where
+  -- the transaction may use more.
   abbrev pub IsCause : AttemptFault → Type 0
   IsCause (Busy busy) = WasRefused told now txn busy × NoFaults told now
   IsCause (NoSpace segment need) =
@@ -86,7 +96,9 @@ module _ (serves : Script → Type 0) (told now : Told Entry) (client : ClientVi
       × NoBusy told now × NoFaults told now
       × FindsNoPlace client.schema txn (record { segment = segment; need = need })
   IsCause (CacheFull used capacity) =
-      (used ≡ capacity) × (capacity ≡ client.most) × (capacity < length told.opened) × NoBusy told now × NoFaults told now
+      (used ≡ capacity) × (capacity ≡ client.most) × (capacity < length told.opened)
+      × ((script : Script) → serves script → script.schema ≡ client.schema → CrowdsPages script told txn capacity)
+      × NoBusy told now × NoFaults told now
   IsCause (SpaceFull frames) =
       (frames ≡ length client.frames.pages) × (frames < length told.opened) × NoBusy told now × NoFaults told now
   IsCause (Commit fault) = FailsToCommit told now txn fault × NoBusy told now

@@ -35,7 +35,8 @@ pub enum Line {
 /// client's. Going comes exactly where the line wasn't the last one. After every other answer no page is in use, and the
 /// attempt is before its first line. A fault has its cause: Busy, where another client owns the page, or uses one that is to
 /// be owned; NoSpace, where fewer pages are free than the transaction may take; CacheFull and SpaceFull, where the cache or the
-/// frames are fewer than the pages of the database; Commit, where the commit of an update failed; and want of memory.
+/// frames are fewer than the pages of the database, and CacheFull only where the cache has, besides, fewer than 2 pages, the data
+/// pages and those that the transaction may take together; Commit, where the commit of an update failed; and want of memory.
 pub fn run_line<M: Mapper, S: PageService<GraphKind>>(
     alloc: Global,
     attempt: &mut Attempt,
