@@ -1,4 +1,4 @@
--- An update that lacks its growth somewhere in a history: the script lacked its growth at the beginning.
+-- A transaction that finds too few pages somewhere in a history: they were too few for the script at the beginning.
 use Rattle.std.proofs.Common.{◌≡◌, ℕ, ◌+◌, ◌<◌, ◌≤◌, Bool, true, false, List, [], ◌∷◌, ◌++◌, length, get_or, Option, Some, refl, sym, ap, subst, ◌∙◌, arith}
 use Rattle.std.specs.Prelude.{All, AllPairs, filter, flat_map, nat_eq, if◌then◌else◌}
 use Rattle.std.specs.FinMap as maps
@@ -9,23 +9,24 @@ use Rattle.std.proofs.lemmas.List.Elements.{All-push, filter-append}
 use Rattle.std.proofs.lemmas.List.Quantifiers.{all_pairs_push}
 use Rattle.std.proofs.lemmas.List.Sums.{sum_by-append, sum_by-cons}
 use Rattle.ostore_base.specs.declared.page.PageImage.{PageImage}
+use Rattle.ostore_page_tags.specs.declared.layout.TheConstants.{FIRST_OPEN_PAGE}
 use Rattle.ostore_page_tags.specs.Allocated.{HasFree}
 use Rattle.ostore_graph_model.specs.declared.commands.Command.{Command}
 use Rattle.ostore_graph_model.specs.declared.commands.Txn.{Txn}
 use Rattle.ostore_graph_model.specs.declared.commands.Script.{Script}
 use Rattle.ostore_graph_model.specs.declared.history.Entry.{Entry}
 use Rattle.ostore_graph_model.specs.Graph.{Graph}
-use Rattle.ostore_graph_model.specs.Growth.{growth_by, growth, declares, update_commands}
+use Rattle.ostore_graph_model.specs.Growth.{growth_by, growth, script_growth, declares, update_commands}
 use Rattle.ostore_graph_model.specs.History.{txn_at}
 use Rattle.ostore_graph_model.specs.StandsFor.{StandsFor}
 use Rattle.ostore_graph_model.proofs.GraphExists.{graph_exists}
 use Rattle.ostore_graph_model.proofs.UniqueLaws.{one_graph}
 use Rattle.ostore_object_ops.specs.Executes.{TakesAtMost}
 use Rattle.ostore_object_ops.proofs.NewFacts.{same_free}
-use Rattle.ostore_page_service.specs.History.{Follows as FollowsOn, Leads, InOrder}
+use Rattle.ostore_page_service.specs.History.{Follows as FollowsOn, Leads, InOrder, IsReached}
 use Rattle.ostore_page_service.proofs.HistoryLaws.{from_filter}
 use Rattle.ostore_client_core.specs.Kinds.{Follows, graph_meaning}
-use Rattle.ostore_graph_history.specs.Space.{LawOfLackedSpace}
+use Rattle.ostore_graph_history.specs.Space.{IsAhead, LawOfLackedSpace, LawOfFewPages}
 use Rattle.ostore_graph_history.proofs.GrowthSums.{growth_rises, growth_adds, takes_more}
 use Rattle.ostore_graph_history.proofs.HistoryLaws.{client_of}
 use Rattle.ostore_graph_history.proofs.StepGrowth.{IsGrown, unchanged, transaction_grows}
@@ -44,8 +45,8 @@ count-append xs ys = length-append xs ys
 declared-append : (xs ys : List Command) → declared (xs ++ ys) ≡ declared xs + declared ys
 declared-append xs ys = ap (λ (zs : List Command). length zs) (filter-append declares xs ys) ∙ length-append (filter declares xs) (filter declares ys)
 
-of_update : (f : List Command → ℕ) (txn : Txn) → txn.update ≡ true → f (update_commands txn) ≡ f txn.commands
-of_update f txn update = ap (λ (b : Bool). f (if b then txn.commands else [])) update
+update_all : (txn : Txn) → txn.update ≡ true → update_commands txn ≡ txn.commands
+update_all txn update = ap (λ (b : Bool). if b then txn.commands else []) update
 
 module _ (script : Script) where
   abbrev commands_in : Entry × ℕ → ℕ
@@ -54,8 +55,11 @@ module _ (script : Script) where
   abbrev declared_in : Entry × ℕ → ℕ
   declared_in e = declared (made_by script e)
 
+  weight_is : (f : List Command → ℕ) (e : Entry × ℕ) (txn : Txn) → txn_at script e.0.client.0 e.0.ordinal ≡ Some txn → f (made_by script e) ≡ f (update_commands txn)
+  weight_is f e txn named = ap (λ (o : Option Txn). f (commands_of o)) named
+
   weighs : (f : List Command → ℕ) (e : Entry × ℕ) (txn : Txn) → txn_at script e.0.client.0 e.0.ordinal ≡ Some txn → txn.update ≡ true → f (made_by script e) ≡ f txn.commands
-  weighs f e txn named update = ap (λ (o : Option Txn). f (commands_of o)) named ∙ of_update f txn update
+  weighs f e txn named update = weight_is f e txn named ∙ ap f (update_all txn update)
 
   -- ---- what a history takes
 
@@ -145,34 +149,50 @@ module _ (script : Script) where
               (takes_more (growth_by (commands_in e) p i n) (growth_by (sum_by commands_in es) p i n) xs leads.1 ys one.taken rest.taken);
         }
 
--- ---- with the update that lacks its growth
+-- ---- with the transaction ahead
 
--- the entry that the update would make
-ahead_entry : ℕ → ℕ → Entry × ℕ
-ahead_entry client ordinal = (record { client = record { 0 = client }; ordinal = ordinal; update = true; replies = [] }, 0)
+-- the entry that the transaction would make
+ahead_entry : ℕ → ℕ → Bool → Entry × ℕ
+ahead_entry client ordinal update = (record { client = record { 0 = client }; ordinal = ordinal; update = update; replies = [] }, 0)
 
 abbrev all_commands : Script → List Command
 all_commands script = flat_map (flat_map update_commands) script.clients
 
-pub space_law : LawOfLackedSpace
+-- Of the pages that were free in the opened list at most so many are free no more, and with what the transaction may take
+-- of the list they are no more than what the script may take of the opened one.
+record Accounts (script : Script) (opened list : List PageImage) (txn : Txn) : Type 0 where
+  graph : Graph
+  stands : StandsFor script.schema opened graph
+  last : Graph
+  free : List ℕ
+  has_free : HasFree opened free
+  left : List ℕ
+  has_left : HasFree list left
+  taken : ℕ
+  fewer : length free ≤ length left + taken
+  together : taken + growth last (update_commands txn) ≤ script_growth graph script
+
+accounts : (script : Script) (first n client ordinal : ℕ) (opened list : List PageImage) (records : List (Entry × ℕ)) → IsReached graph_meaning script first opened client records n list
+    → (txn : Txn) → IsAhead script client ordinal txn records → Accounts script opened list txn
 unfolding ahead_entry
-space_law script first n client ordinal opened list records reached txn ahead lacks =
+accounts script first n client ordinal opened list records reached txn ahead =
     let h = reached.history in
     let legal = reached.legal in
-    let e = ahead_entry client ordinal in
+    let e = ahead_entry client ordinal txn.update in
+    let own = update_commands txn in
     let graph = graph_exists script.schema opened legal.opened_valid.cells_kept in
-    let named : All (IsNamed script) (reached.history ++ ahead_entry client ordinal ∷ []) =
+    let named : All (IsNamed script) (reached.history ++ ahead_entry client ordinal txn.update ∷ []) =
     All-push (IsNamed script) h e (λ k d lt. record { txn = (legal.named k d lt).0; named = (legal.named k d lt).1.named }) (record { txn = txn; named = ahead.named }) in
-    let order : AllPairs (InOrder graph_meaning script) (reached.history ++ ahead_entry client ordinal ∷ []) =
+    let order : AllPairs (InOrder graph_meaning script) (reached.history ++ ahead_entry client ordinal txn.update ∷ []) =
     all_pairs_push (InOrder graph_meaning script) h e legal.order
     (λ k d lt same. from_filter (λ (r : Entry × ℕ). nat_eq (graph_meaning.client r.0) client) (λ (r : Entry × ℕ). r.0.ordinal < ordinal) h
     (subst (All (λ (r : Entry × ℕ). r.0.ordinal < ordinal)) (sym reached.mine) ahead.rises) k d lt (eq-eqb (client_of (get_or h k d)) client same)) in
-    let commands = all_weigh count count-append script (reached.history ++ ahead_entry client ordinal ∷ []) named order in
-    let indexes = all_weigh declared declared-append script (reached.history ++ ahead_entry client ordinal ∷ []) named order in
-    let own_commands : commands_in script (ahead_entry client ordinal) ≡ count txn.commands = weighs script count e txn ahead.named ahead.update in
-    let own_indexes : declared_in script (ahead_entry client ordinal) ≡ declared txn.commands = weighs script declared e txn ahead.named ahead.update in
-    let split_commands = sum_by-append (commands_in script) h (ahead_entry client ordinal ∷ []) in
-    let split_indexes = sum_by-append (declared_in script) h (ahead_entry client ordinal ∷ []) in
+    let commands = all_weigh count count-append script (reached.history ++ ahead_entry client ordinal txn.update ∷ []) named order in
+    let indexes = all_weigh declared declared-append script (reached.history ++ ahead_entry client ordinal txn.update ∷ []) named order in
+    let own_commands : commands_in script (ahead_entry client ordinal txn.update) ≡ count (update_commands txn) = weight_is script count e txn ahead.named in
+    let own_indexes : declared_in script (ahead_entry client ordinal txn.update) ≡ declared (update_commands txn) = weight_is script declared e txn ahead.named in
+    let split_commands = sum_by-append (commands_in script) h (ahead_entry client ordinal txn.update ∷ []) in
+    let split_indexes = sum_by-append (declared_in script) h (ahead_entry client ordinal txn.update ∷ []) in
     let last_commands = sum_by-cons (commands_in script) e [] in
     let last_indexes = sum_by-cons (declared_in script) e [] in
     let p = maps.len graph.0.pairs + count (all_commands script) in
@@ -187,21 +207,56 @@ space_law script first n client ordinal opened list records reached txn ahead la
     let free = legal.opened_valid.pages_kept.allocated.chains in
     let has : HasFree opened free.0 = free.2.free_list in
     let rest = takes.taken free.0 has in
-    let short = lacks takes.last rest.0 rest.1 in
-    let own = growth_rises (count txn.commands) (maps.len takes.last.pairs + count txn.commands) (maps.len takes.last.indexes + declared txn.commands) (maps.len takes.last.objects + count txn.commands)
-    (count txn.commands) p i m (omega arith)
+    let taken = growth_by (sum_by (commands_in script) h) p i m in
+    let most = growth_rises (count own) (maps.len takes.last.pairs + count own) (maps.len takes.last.indexes + declared own) (maps.len takes.last.objects + count own)
+    (count own) p i m (omega arith)
     (omega (arith, takes.grown.pairs, commands, split_commands, last_commands, own_commands))
     (omega (arith, takes.grown.indexes, indexes, split_indexes, last_indexes, own_indexes))
     (omega (arith, takes.grown.names, commands, split_commands, last_commands, own_commands)) in
-    let both = growth_adds (sum_by (commands_in script) h) (count txn.commands) p i m in
-    let all = growth_rises (sum_by (commands_in script) h + count txn.commands) p i m (count (all_commands script)) p i m (omega (arith, commands, split_commands, last_commands, own_commands)) (omega arith) (omega arith) (omega arith) in
+    let both = growth_adds (sum_by (commands_in script) h) (count own) p i m in
+    let all = growth_rises (sum_by (commands_in script) h + count own) p i m (count (all_commands script)) p i m (omega (arith, commands, split_commands, last_commands, own_commands)) (omega arith) (omega arith) (omega arith) in
     record {
       graph = graph.0;
       stands = graph.1;
+      last = takes.last;
       free = free.0;
       has_free = has;
-      lacks = below (length free.0) (length rest.0) _ _ _ _ _ rest.2 short own both all;
+      left = rest.0;
+      has_left = rest.1;
+      taken = taken;
+      fewer = rest.2;
+      together = adds_up taken (growth takes.last own) (growth_by (count own) p i m) (growth_by (sum_by (commands_in script) h + count own) p i m) (growth_by (count (all_commands script)) p i m) most both all;
     }
   where
-    below : (free rest taken own most both all : ℕ) → free ≤ rest + taken → rest < own → own ≤ most → both ≡ taken + most → both ≤ all → free < all
-    below free rest taken own most both all first short within adds together = omega (arith, first, short, within, adds, together)
+    adds_up : (taken own most both all : ℕ) → own ≤ most → both ≡ taken + most → both ≤ all → taken + own ≤ all
+    adds_up taken own most both all within adds together = omega (arith, within, adds, together)
+
+pub space_law : LawOfLackedSpace
+space_law script first n client ordinal opened list records reached txn ahead update lacks =
+    let all = accounts script first n client ordinal opened list records reached txn ahead in
+    let short : length all.left < growth all.last (update_commands txn) =
+    subst (λ (commands : List Command). length all.left < growth all.last commands) (sym (update_all txn update)) (lacks all.last all.left all.has_left) in
+    record {
+      graph = all.graph;
+      stands = all.stands;
+      free = all.free;
+      has_free = all.has_free;
+      lacks = below (length all.free) (length all.left) all.taken _ _ all.fewer short all.together;
+    }
+  where
+    below : (free left taken own all : ℕ) → free ≤ left + taken → left < own → taken + own ≤ all → free < all
+    below free left taken own all first short together = omega (arith, first, short, together)
+
+pub few_law : LawOfFewPages
+few_law script first n client ordinal opened list records reached txn ahead pages few =
+    let all = accounts script first n client ordinal opened list records reached txn ahead in
+    record {
+      graph = all.graph;
+      stands = all.stands;
+      free = all.free;
+      has_free = all.has_free;
+      below = below pages FIRST_OPEN_PAGE (length all.free) (length all.left) all.taken (length list) (length opened) _ _ all.fewer (few all.last all.left all.has_left) reached.legal.long all.together;
+    }
+  where
+    below : (n first free left taken now opened own all : ℕ) → free ≤ left + taken → n + first + left < 2 + now + own → now ≡ opened → taken + own ≤ all → n + first + free < 2 + opened + all
+    below n first free left taken now opened own all fewer few long together = omega (arith, fewer, few, long, together)

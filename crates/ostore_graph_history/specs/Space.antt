@@ -1,6 +1,7 @@
--- Why a transaction lacks space, and how much space commands on ints take.
-use Rattle.std.specs.Prelude.{◌≡◌, ◌<◌, ◌*◌, ℕ, true, List, [], length, filter, All, Some}
+-- Why a transaction lacks space or room for its pages, and how much space commands on ints take.
+use Rattle.std.specs.Prelude.{◌≡◌, ◌<◌, ◌+◌, ◌*◌, ℕ, true, List, [], length, filter, All, Some}
 use Rattle.ostore_base.specs.declared.page.PageImage.{PageImage}
+use Rattle.ostore_page_tags.specs.declared.layout.TheConstants.{FIRST_OPEN_PAGE}
 use Rattle.ostore_page_tags.specs.Allocated.{HasFree}
 use Rattle.ostore_schema_layout.specs.declared.schema.Schema.{Schema}
 use Rattle.ostore_graph_model.specs.declared.commands.Command.{Command}
@@ -15,6 +16,7 @@ use Rattle.ostore_graph_model.specs.StandsFor.{StandsFor}
 use Rattle.ostore_graph_model.specs.Valid.{IsValid}
 use Rattle.ostore_object_ops.specs.Suits.{IsOfInts}
 use Rattle.ostore_object_ops.specs.Lines.{LacksGrowth}
+use Rattle.ostore_object_ops.specs.Claiming.{IsBelowGrowth}
 use Rattle.ostore_page_service.specs.History.{IsReached}
 use Rattle.ostore_client_core.specs.Kinds.{graph_meaning}
 
@@ -28,10 +30,9 @@ pub record LacksPages (script : Script) (opened : List PageImage) : Type 0 where
   pub has_free : HasFree opened free
   pub lacks : length free < script_growth graph script
 
--- an update of the script that a client with these records may still commit: its ordinal is above theirs
+-- a transaction of the script that a client with these records may still commit: its ordinal is above theirs
 pub record IsAhead (script : Script) (client ordinal : ℕ) (txn : Txn) (records : List (Entry × ℕ)) : Type 0 where
   pub named : txn_at script client ordinal ≡ Some txn
-  pub update : txn.update ≡ true
   pub rises : All (λ (r : Entry × ℕ). r.0.ordinal < ordinal) records
 
 -- An update that lacks its growth, on a list that a history of the script reaches from the opened one, says that the
@@ -40,8 +41,28 @@ abbrev pub LawOfLackedSpace : Type 0
 LawOfLackedSpace =
     (script : Script) (first n client ordinal : ℕ) (opened list : List PageImage) (records : List (Entry × ℕ))
     → IsReached graph_meaning script first opened client records n list
-    → (txn : Txn) → IsAhead script client ordinal txn records → LacksGrowth txn list
+    → (txn : Txn) → IsAhead script client ordinal txn records → txn.update ≡ true → LacksGrowth txn list
     → LacksPages script opened
+
+-- ---- lack of room
+
+-- So many pages are fewer than 2, the data pages of the opened list, and what the script may take, together. The data
+-- pages are those from page 10 on that aren't free.
+pub record IsBelowScript (script : Script) (opened : List PageImage) (pages : ℕ) : Type 0 where
+  pub graph : Graph
+  pub stands : StandsFor script.schema opened graph
+  pub free : List ℕ
+  pub has_free : HasFree opened free
+  pub below : pages + FIRST_OPEN_PAGE + length free < 2 + length opened + script_growth graph script
+
+-- Where so many pages are too few for a transaction, on a list that a history of the script reaches from the opened one,
+-- they are too few for the script on the opened list: each data page that came since was taken by a command of the script.
+abbrev pub LawOfFewPages : Type 0
+LawOfFewPages =
+    (script : Script) (first n client ordinal : ℕ) (opened list : List PageImage) (records : List (Entry × ℕ))
+    → IsReached graph_meaning script first opened client records n list
+    → (txn : Txn) → IsAhead script client ordinal txn records → (pages : ℕ) → IsBelowGrowth txn list pages
+    → IsBelowScript script opened pages
 
 -- ---- ints
 

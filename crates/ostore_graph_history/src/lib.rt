@@ -3,4 +3,4 @@
 
 mod laws;
 
-pub use laws::{history_is_legal, ints_have_no_indexes, space_is_lacked};
+pub use laws::{history_is_legal, ints_have_no_indexes, pages_are_few, space_is_lacked};
