@@ -15,16 +15,19 @@ pub record Bounds : Type 1 where
   pub pages : ℕ
   -- it has fewer free pages than the transactions may need
   pub lacks : Type 0
+  -- the transactions may use more pages than so many
+  pub crowded : ℕ → Type 0
   -- a disk call of a commit may fail
   pub fails : Type 0
 
 -- No space is found only where pages are lacking. A cache is full only where all pages that the client's option allows
--- are in use, and the frames are all reserved only where they are as many as its option allows; either is below the
--- pages that there are. A disk call fails only where it may.
+-- are in use, and the transactions may use more. The frames are all reserved only where they are as many as its option
+-- allows. Either is below the pages that there are. A disk call fails only where it may.
 abbrev pub IsBounded : Bounds → JobClient → Cause → Type 0
 IsBounded bounds client (Busy page seen found) = Unit {0}
 IsBounded bounds client (NoSpace segment need) = bounds.lacks
-IsBounded bounds client (CacheFull used capacity) = (used ≡ capacity) × (capacity ≡ client.cache) × (client.cache < bounds.pages)
+IsBounded bounds client (CacheFull used capacity) =
+    (used ≡ capacity) × (capacity ≡ client.cache) × (client.cache < bounds.pages) × bounds.crowded client.cache
 IsBounded bounds client (SpaceFull frames) = (frames ≡ client.frames) × (client.frames < bounds.pages)
 IsBounded bounds client Disk = bounds.fails
 IsBounded bounds client (Stopped after) = ⊥

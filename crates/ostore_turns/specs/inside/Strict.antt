@@ -32,4 +32,4 @@ IsBare (Failed cause) = Unit {0}
 
 -- no cause comes but busy and disk
 abbrev pub strict_bounds : Bounds
-strict_bounds = record { pages = 0; lacks = ⊥; fails = Unit {0} }
+strict_bounds = record { pages = 0; lacks = ⊥; crowded = λ pages. ⊥; fails = Unit {0} }
