@@ -23,7 +23,7 @@ use Rattle.ostore_turns.specs.declared.place.Place.{Place}
 use Rattle.ostore_turns.specs.Places.{HasRoom, IsIn}
 use Rattle.ostore_turns.specs.LawfulTurns.{Turns}
 use Rattle.ostore_turns.specs.Bounds.{GivesWithin}
-use Rattle.ostore_graph_history.specs.Space.{LawOfLackedSpace}
+use Rattle.ostore_graph_history.specs.Space.{LawOfFewPages, LawOfLackedSpace}
 use Rattle.ostore_client_turns.specs.declared.seat.Seat.{Seat}
 use Rattle.ostore_client_turns.specs.Runs.{bounds_of, script_of}
 use Rattle.ostore_client_turns.specs.inside.AtServer.{IsReadyAt, MayExecuteAt, TakesTurnAt, moment_at}
@@ -116,14 +116,14 @@ module _ {K D M : Type 0} {g : kind.Ghosts K Entry Script} (disk_faults : D → 
           (all_told_as disk_faults after took_now.0 (opened_of server) opened) is_in sits replaced took_now.1
       executed_turns (Err fault) took = tt
 
-      pub executed_within : LawOfLackedSpace → (result : Result Gave OutOfMemory) → IfOk result (TakesTurnAt disk_faults server after number its.tries txn (view_of old) (view_of new))
+      pub executed_within : LawOfLackedSpace → LawOfFewPages → (result : Result Gave OutOfMemory) → IfOk result (TakesTurnAt disk_faults server after number its.tries txn (view_of old) (view_of new))
           → IfOk result (λ gave. GivesWithin (bounds_of (script_of schema job) (opened_of server)) job.clients number gave)
-      executed_within law (Ok gave) took =
+      executed_within lacked few (Ok gave) took =
           let took_now = took_as gave took in
           within_bounds (Serves server) (Serves after) (λ n. told_of took_now.0 disk_faults n server) (λ n. told_of took_now.0 disk_faults n after) (opened_of server) (journal_of server).number (journal_of after).number
           schema job (seats_in items) (seats_in (set items at new)) number is_in.client txn (view_of old) (view_of new) gave (ready took_now.0) (all_told disk_faults server took_now.0)
-          (all_told_as disk_faults after took_now.0 (opened_of server) opened) turn replaced took_now.1 law
-      executed_within law (Err fault) took = tt
+          (all_told_as disk_faults after took_now.0 (opened_of server) opened) turn replaced took_now.1 lacked few
+      executed_within lacked few (Err fault) took = tt
 
       pub executed_ready : (result : Result Gave OutOfMemory) → IfOk result (TakesTurnAt disk_faults server after number its.tries txn (view_of old) (view_of new))
           → length items ≡ length job.clients → IfOk result (λ gave. IsReadyAt disk_faults after schema job (seats_in (set items at new)) × (length (set items at new) ≡ length job.clients))

@@ -14,7 +14,8 @@ use Rattle.ostore_client_core.specs.Clients.{ClientView, IsOwn}
 use Rattle.ostore_client_turns.specs.Runs.{script_of}
 use Rattle.ostore_client_turns.specs.inside.AtServer.{IsOwnAt, IsReadyAt}
 use Rattle.ostore_client_turns.specs.inside.Stores.{AreTold, IsReady, SeatView}
-use Rattle.ostore_client_turns.proofs.StayLaws.{Stays, stays_own, stays_seated, stays_vacant}
+use Rattle.ostore_client_core.proofs.StayLaws.{Stays, stays_own}
+use Rattle.ostore_client_turns.proofs.StayLaws.{stays_seated, stays_vacant}
 
 undisturbed : (side : Side Entry) → Undisturbed side side
 undisturbed side = record {

@@ -31,7 +31,7 @@ use Rattle.ostore_client_core.specs.declared.fault.AttemptFault.TheVariants as f
 use Rattle.ostore_transactions.specs.declared.line.Line.{Line}
 use Rattle.ostore_transactions.specs.declared.line.Line.TheVariants as lines
 use Rattle.ostore_transactions.specs.Attempts.{last_line, line_at}
-use Rattle.ostore_transactions.specs.Causes.{IsCommandLine as IsCommand, LacksPages as LacksThere}
+use Rattle.ostore_transactions.specs.Causes.{CrowdsPages as CrowdsThere, IsCommandLine as IsCommand, LacksPages as LacksThere}
 use Rattle.ostore_transactions.specs.Lines.{HasFailed, entry_by}
 use Rattle.ostore_turns.specs.declared.attempts.Gave.{Gave}
 use Rattle.ostore_turns.specs.declared.attempts.Gave.TheVariants.{Going, Committed, Aborted}
@@ -40,12 +40,13 @@ use Rattle.ostore_turns.specs.Places.{IsIn, Moment, moved}
 use Rattle.ostore_turns.specs.LawfulTurns.{commits_then, IsCauseAt, IsCommandLine, IsLastLine, MayGive, Turns, moved_one, recorded_one, records_then}
 use Rattle.ostore_turns.specs.Bounds.{GivesWithin, IsBounded}
 use Rattle.ostore_graph_history.specs.Histories.{committed_entry}
-use Rattle.ostore_graph_history.specs.Space.{LacksPages, LawOfLackedSpace}
+use Rattle.ostore_graph_history.specs.Space.{IsAhead, IsBelowScript, LacksPages, LawOfFewPages, LawOfLackedSpace}
 use Rattle.ostore_client_turns.specs.Causes.{cause_of, cause_of_commit}
 use Rattle.ostore_client_turns.specs.Runs.{AreBuilt, bounds_of, script_of}
 use Rattle.ostore_client_turns.specs.inside.Stores.{AreSeated, AreTold, IsReady, IsSeated, IsVacant, SeatView, moment_in, place_of, recorded}
 use Rattle.ostore_client_turns.specs.inside.Turning.{GivesLine, MayExecute, TakesTurn, gave_of}
-use Rattle.ostore_client_turns.proofs.StayLaws.{Stays, stays_seated, stays_vacant}
+use Rattle.ostore_client_core.proofs.StayLaws.{Stays}
+use Rattle.ostore_client_turns.proofs.StayLaws.{stays_seated, stays_vacant}
 use Rattle.ostore_client_turns.proofs.MetLaws.{is_met}
 use Rattle.ostore_client_turns.proofs.TurnLaws.{commits_turned, has_cause, number_is, script_kept, service_same, turned_seat}
 
@@ -248,40 +249,50 @@ module _ (serves later : Script → Type 0) (told now : ℕ → Told Entry) (ope
   bounded_commit (commit_faults.Stopped count) cause its is may = absurd (false≢true (sym (all.sound number) ∙ may))
   bounded_commit commit_faults.OutOfMemory cause its is may = absurd (none-some cause is)
 
+  ahead : IsAhead (script_of schema job) (told number).client (old.place.txn + 1) txn (told number).mine.records
+  ahead = record { named = named; rises = seat.earlier }
+
   lacks : LawOfLackedSpace → txn.update ≡ true → LacksThere (script_of schema job) (told number) txn → LacksPages (script_of schema job) opened
   lacks law update there = subst (LacksPages (script_of schema job)) (all.opens number)
-      (law (script_of schema job) (told number).first there.number (told number).client (old.place.txn + 1) (told number).opened there.list (told number).mine.records there.reached txn
-      (record { named = named; update = update; rises = seat.earlier }) there.lacks)
+      (law (script_of schema job) (told number).first there.number (told number).client (old.place.txn + 1) (told number).opened there.list (told number).mine.records there.reached txn ahead update there.lacks)
 
-  bounded_by : LawOfLackedSpace → (fault : AttemptFault) (cause : Cause) (its : JobClient) → cause_of fault ≡ Some cause → slice_get job.clients number ≡ Some its
+  crowds : LawOfFewPages → (capacity : ℕ) → CrowdsThere (script_of schema job) (told number) txn capacity → IsBelowScript (script_of schema job) opened capacity
+  crowds law capacity there = subst (λ (pages : List PageImage). IsBelowScript (script_of schema job) pages capacity) (all.opens number)
+      (law (script_of schema job) (told number).first there.number (told number).client (old.place.txn + 1) (told number).opened there.list (told number).mine.records there.reached txn ahead capacity there.below)
+
+  bounded_by : LawOfLackedSpace → LawOfFewPages → (fault : AttemptFault) (cause : Cause) (its : JobClient) → cause_of fault ≡ Some cause → slice_get job.clients number ≡ Some its
       → HasFailed serves later (told number) (now number) old.client new.client txn (line_at old.attempt) new.attempt fault → IsBounded (bounds_of (script_of schema job) opened) its cause
-  bounded_by law (faults.Busy busy) cause its is its_there failed = subst (IsBounded (bounds_of (script_of schema job) opened) its) (same_Some (causes.Busy busy.page busy.seen busy.found) cause is) tt
-  bounded_by law (faults.NoSpace segment need) cause its is its_there failed = subst (IsBounded (bounds_of (script_of schema job) opened) its) (same_Some (causes.NoSpace segment need) cause is)
-      (lacks law failed.cause.0 (failed.cause.1 (script_of schema job) ready.served (sym seat.of_schema)))
-  bounded_by law (faults.CacheFull used capacity) cause its is its_there failed =
+  bounded_by lacked few (faults.Busy busy) cause its is its_there failed = subst (IsBounded (bounds_of (script_of schema job) opened) its) (same_Some (causes.Busy busy.page busy.seen busy.found) cause is) tt
+  bounded_by lacked few (faults.NoSpace segment need) cause its is its_there failed = subst (IsBounded (bounds_of (script_of schema job) opened) its) (same_Some (causes.NoSpace segment need) cause is)
+      (lacks lacked failed.cause.0 (failed.cause.1 (script_of schema job) ready.served (sym seat.of_schema)))
+  bounded_by lacked few (faults.CacheFull used capacity) cause its is its_there failed =
       let mine : its ≡ client = same_Some its client (sym its_there ∙ turn.there) in
       let most : capacity ≡ its.cache = failed.cause.1 ∙ seat.most ∙ ap (λ (c : JobClient). c.cache) (sym mine) in
-      subst (IsBounded (bounds_of (script_of schema job) opened) its) (same_Some (causes.CacheFull used capacity) cause is)
-      (failed.cause.0, most, subst (λ (n : ℕ). n < length opened) most (subst (λ (pages : List PageImage). capacity < length pages) (all.opens number) failed.cause.2))
-  bounded_by law (faults.SpaceFull frames) cause its is its_there failed =
+      subst (IsBounded (bounds_of (script_of schema job) opened) its) (same_Some (causes.CacheFull used capacity) cause is) (
+        failed.cause.0,
+        most,
+        subst (λ (n : ℕ). n < length opened) most (subst (λ (pages : List PageImage). capacity < length pages) (all.opens number) failed.cause.2),
+        subst (IsBelowScript (script_of schema job) opened) most (crowds few capacity (failed.cause.3 (script_of schema job) ready.served (sym seat.of_schema))),
+      )
+  bounded_by lacked few (faults.SpaceFull frames) cause its is its_there failed =
       let mine : its ≡ client = same_Some its client (sym its_there ∙ turn.there) in
       let most : frames ≡ its.frames = failed.cause.0 ∙ seat.frames ∙ ap (λ (c : JobClient). c.frames) (sym mine) in
       subst (IsBounded (bounds_of (script_of schema job) opened) its) (same_Some (causes.SpaceFull frames) cause is)
       (most, subst (λ (n : ℕ). n < length opened) most (subst (λ (pages : List PageImage). frames < length pages) (all.opens number) failed.cause.1))
-  bounded_by law (faults.Commit fault) cause its is its_there failed = bounded_commit fault cause its is failed.cause.0.may
-  bounded_by law faults.OutOfMemory cause its is its_there failed = absurd (none-some cause is)
+  bounded_by lacked few (faults.Commit fault) cause its is its_there failed = bounded_commit fault cause its is failed.cause.0.may
+  bounded_by lacked few faults.OutOfMemory cause its is its_there failed = absurd (none-some cause is)
 
-  within_by : LawOfLackedSpace → (result : Result Line AttemptFault) → GivesLine serves later (told number) (now number) old.client new.client txn (line_at old.attempt) new.attempt (old.place.txn + 1) result → gave_of result ≡ Some gave
+  within_by : LawOfLackedSpace → LawOfFewPages → (result : Result Line AttemptFault) → GivesLine serves later (told number) (now number) old.client new.client txn (line_at old.attempt) new.attempt (old.place.txn + 1) result → gave_of result ≡ Some gave
       → GivesWithin (bounds_of (script_of schema job) opened) job.clients number gave
-  within_by law (Ok lines.Going) gives is = subst (GivesWithin (bounds_of (script_of schema job) opened) job.clients number) (same_Some Going gave is) tt
-  within_by law (Ok (lines.Committed count replies)) gives is = subst (GivesWithin (bounds_of (script_of schema job) opened) job.clients number) (same_Some (Committed count replies) gave is) tt
-  within_by law (Ok lines.Aborted) gives is = subst (GivesWithin (bounds_of (script_of schema job) opened) job.clients number) (same_Some Aborted gave is) tt
-  within_by law (Err fault) gives is =
+  within_by lacked few (Ok lines.Going) gives is = subst (GivesWithin (bounds_of (script_of schema job) opened) job.clients number) (same_Some Going gave is) tt
+  within_by lacked few (Ok (lines.Committed count replies)) gives is = subst (GivesWithin (bounds_of (script_of schema job) opened) job.clients number) (same_Some (Committed count replies) gave is) tt
+  within_by lacked few (Ok lines.Aborted) gives is = subst (GivesWithin (bounds_of (script_of schema job) opened) job.clients number) (same_Some Aborted gave is) tt
+  within_by lacked few (Err fault) gives is =
       let caused = has_cause fault gave is in
-      subst (GivesWithin (bounds_of (script_of schema job) opened) job.clients number) (sym caused.gave_is) (λ its its_there. bounded_by law fault caused.cause its caused.is its_there gives)
+      subst (GivesWithin (bounds_of (script_of schema job) opened) job.clients number) (sym caused.gave_is) (λ its its_there. bounded_by lacked few fault caused.cause its caused.is its_there gives)
 
-  pub within_bounds : LawOfLackedSpace → GivesWithin (bounds_of (script_of schema job) opened) job.clients number gave
-  within_bounds law = within_by law took.result took.executes.gives took.gives
+  pub within_bounds : LawOfLackedSpace → LawOfFewPages → GivesWithin (bounds_of (script_of schema job) opened) job.clients number gave
+  within_bounds lacked few = within_by lacked few took.result took.executes.gives took.gives
 
   -- ---- what has been committed
 

@@ -13,7 +13,7 @@ use Rattle.ostore_turns.specs.Places.{Moment, first_place}
 use Rattle.ostore_turns.specs.Runs.{IsRunBy}
 use Rattle.ostore_turns.specs.Bounds.{Bounds, AreBounded}
 use Rattle.ostore_graph_history.specs.Histories.{IsHistoryTo}
-use Rattle.ostore_graph_history.specs.Space.{LacksPages}
+use Rattle.ostore_graph_history.specs.Space.{IsBelowScript, LacksPages}
 use Rattle.ostore_client_turns.specs.declared.run.Run.{Run}
 
 -- ---- what is run
@@ -33,9 +33,15 @@ first_moment number = record { places = λ client. first_place; records = λ cli
 
 -- ---- when something runs out
 
--- No call of a disk fails: the journal only counts.
+-- The script may use more pages than so many where they are fewer than 2, the data pages of the opened list and what it may
+-- take, together. No call of a disk fails: the journal only counts.
 abbrev pub bounds_of : Script → List PageImage → Bounds
-bounds_of script opened = record { pages = length opened; lacks = LacksPages script opened; fails = ⊥ }
+bounds_of script opened = record {
+  pages = length opened;
+  lacks = LacksPages script opened;
+  crowded = λ pages. IsBelowScript script opened pages;
+  fails = ⊥;
+}
 
 -- ---- what a run gives
 

@@ -4,7 +4,7 @@ use crate::seat::Seat;
 use ostore_address_space::Mapper;
 use ostore_base::{ClientNo, Disk, OutOfMemory};
 use ostore_client_core::GraphKind;
-use ostore_graph_history::space_is_lacked;
+use ostore_graph_history::{pages_are_few, space_is_lacked};
 use ostore_graph_model::Txn;
 use ostore_job_text::Job;
 use ostore_page_service::SeqServer;
@@ -99,6 +99,7 @@ impl<'s, 'v, 'a, D: Disk, M: Mapper> Attempts for Store<'s, 'v, 'a, D, M> {
         let tries = self.job.clients.items()[number].tries;
         let seat = &mut self.seats[number];
         space_is_lacked();
+        pages_are_few();
         seat.take_turn(self.alloc, self.server, client, self.schema, txn, tries)
     }
 }

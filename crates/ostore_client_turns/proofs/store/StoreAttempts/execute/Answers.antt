@@ -40,7 +40,7 @@ returns-clause-bounded g c =
     let store = c.args.self.now in
     executed_within g.D.Disk.faults store.server.now store.server.ghost_name store.schema.now store.job.now store.seats.now.items c.from-number.result c.args.client.0 c.args.txn.now c.from-number.ensures c.requires.ready.0 c.requires.next
     c.index_mut-seat.result.now c.index_mut-seat.ensures.value (get_or c.items.result.now c.from-number.result c.index-items-number.result) c.index-items-number.result
-    (ap (λ (xs : List JobClient). get_or xs c.from-number.result c.index-items-number.result) c.items.ensures) c.take_turn.new.server c.take_turn.ensures.opened c.take_turn.new.self c.space_is_lacked.ensures c.take_turn.result c.take_turn.ensures.took
+    (ap (λ (xs : List JobClient). get_or xs c.from-number.result c.index-items-number.result) c.items.ensures) c.take_turn.new.server c.take_turn.ensures.opened c.take_turn.new.self c.space_is_lacked.ensures c.pages_are_few.ensures c.take_turn.result c.take_turn.ensures.took
 
 pub returns-clause-ready : goal.returns-clause-ready
 returns-clause-ready g c =
