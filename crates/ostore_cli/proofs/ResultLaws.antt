@@ -1,6 +1,7 @@
 -- What results say of transactions: which committed, that each stands where none was given up, that none is where there
 -- is room, and that the rest can be told from the transactions that committed.
 use Rattle.std.proofs.Common.{◌≡◌, ℕ, zero, suc, ◌+◌, ◌<◌, ◌≤◌, Bool, true, false, ◌||◌, cond, List, [], ◌∷◌, ◌++◌, map, Some, refl, sym, ap, subst, ◌∙◌, arith}
+use Rattle.std.proofs.Common.{⊎_elim}
 use Rattle.std.specs.Prelude.{Any, option_and_then, slice_get}
 use Rattle.std.specs.List.{AllByRecursion, list_any}
 use Rattle.std.proofs.lemmas.Bool.{false≢true}
@@ -22,7 +23,7 @@ use Rattle.ostore_graph_model.specs.declared.commands.Script.{Script}
 use Rattle.ostore_turns.specs.Alone.{IsMetByNone}
 use Rattle.ostore_turns.specs.Bounds.{Bounds, IsBounded}
 use Rattle.ostore_turns.specs.TurnResults.{AllByTxn}
-use Rattle.ostore_cli.specs.FreshRuns.{fresh_bounds, HasRoom, all_pages, free_pages, EndsAs, AllEnd, was_given_up, any_given_up}
+use Rattle.ostore_cli.specs.FreshRuns.{fresh_bounds, HasRoom, IsAmple, all_pages, free_pages, used_pages, EndsAs, AllEnd, was_given_up, any_given_up}
 
 -- ---- lists
 
@@ -106,29 +107,33 @@ job_ends bounds (client ∷ clients) (mine ∷ others) ends kept =
 -- ---- where there is room, none is given up
 
 module _ (script : Script) (growth : script_growth empty_graph script ≤ free_pages) where
-  no_cause : (client : JobClient) (cause : Cause) → all_pages ≤ client.cache → all_pages ≤ client.frames → IsMetByNone cause → IsBounded (fresh_bounds script) client cause → ⊥
+  no_cause : (client : JobClient) (cause : Cause) → IsAmple script client.cache → all_pages ≤ client.frames → IsMetByNone cause → IsBounded (fresh_bounds script) client cause → ⊥
   no_cause client (Busy page seen found) cache frames alone within = alone
   no_cause client (NoSpace segment need) cache frames alone within = not_less (script_growth empty_graph script) free_pages growth within
-  no_cause client (CacheFull used capacity) cache frames alone within = not_less all_pages client.cache cache within.2
+  no_cause client (CacheFull used capacity) cache frames alone within =
+      ⊎_elim
+      (λ (all : all_pages ≤ client.cache). not_less all_pages client.cache all within.2)
+      (λ (used : used_pages script ≤ client.cache). not_less (used_pages script) client.cache used within.3)
+      cache
   no_cause client (SpaceFull n) cache frames alone within = not_less all_pages client.frames frames within.1
   no_cause client Disk cache frames alone within = within
   no_cause client (Stopped after) cache frames alone within = alone
 
-  kept_one : (client : JobClient) (txn : Txn) (result : TxnResult) → all_pages ≤ client.cache → all_pages ≤ client.frames → EndsAs (fresh_bounds script) client txn result → was_given_up result ≡ false
+  kept_one : (client : JobClient) (txn : Txn) (result : TxnResult) → IsAmple script client.cache → all_pages ≤ client.frames → EndsAs (fresh_bounds script) client txn result → was_given_up result ≡ false
   kept_one client txn (Commit number tries replies) cache frames ends = refl
   kept_one client txn (Read number tries replies) cache frames ends = refl
   kept_one client txn (Abort tries) cache frames ends = refl
   kept_one client txn (GaveUp tries cause) cache frames ends = absurd (no_cause client cause cache frames ends.1 ends.2)
   kept_one client txn NotRun cache frames ends = absurd ends
 
-  kept_all : (client : JobClient) (txns : List Txn) (results : List TxnResult) → all_pages ≤ client.cache → all_pages ≤ client.frames → AllByTxn (EndsAs (fresh_bounds script) client) txns results → list_any was_given_up results ≡ false
+  kept_all : (client : JobClient) (txns : List Txn) (results : List TxnResult) → IsAmple script client.cache → all_pages ≤ client.frames → AllByTxn (EndsAs (fresh_bounds script) client) txns results → list_any was_given_up results ≡ false
   kept_all client [] [] cache frames ends = refl
   kept_all client [] (result ∷ results) cache frames ends = absurd ends
   kept_all client (txn ∷ txns) [] cache frames ends = absurd ends
   kept_all client (txn ∷ txns) (result ∷ results) cache frames ends =
       (λ i. kept_one client txn result cache frames ends.0 i || list_any was_given_up results) ∙ kept_all client txns results cache frames ends.1
 
-  kept_by : (clients : List JobClient) (results : List (List TxnResult)) → AllByRecursion (λ client. (all_pages ≤ client.cache) × (all_pages ≤ client.frames)) clients → AllEnd (fresh_bounds script) clients results → any_given_up results ≡ false
+  kept_by : (clients : List JobClient) (results : List (List TxnResult)) → AllByRecursion (λ client. IsAmple script client.cache × (all_pages ≤ client.frames)) clients → AllEnd (fresh_bounds script) clients results → any_given_up results ≡ false
   kept_by [] [] options ends = refl
   kept_by [] (mine ∷ others) options ends = absurd ends
   kept_by (client ∷ clients) [] options ends = absurd ends

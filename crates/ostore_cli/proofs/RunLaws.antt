@@ -1,11 +1,12 @@
 -- A job that ran on fresh pages, one client after the other, came to what is promised.
-use Rattle.std.proofs.Common.{◌≡◌, ℕ, ◌<◌, ◌≤◌, false, List, [], ◌∷◌, length, Result, Ok, Err, refl, ap, subst, ◌∙◌, arith}
+use Rattle.std.proofs.Common.{◌≡◌, ℕ, ◌+◌, ◌<◌, ◌≤◌, false, List, [], ◌∷◌, length, Result, Ok, Err, refl, ap, subst, ◌∙◌, arith}
 use Rattle.std.specs.Prelude.{IfOk}
 use Rattle.std.specs.List.{AllByRecursion}
 use Rattle.std.proofs.lemmas.Bool.{false≢true}
 use Rattle.std.proofs.lemmas.List.{length-append}
 use Rattle.ostore_base.specs.declared.out_of_memory.OutOfMemory.{OutOfMemory}
 use Rattle.ostore_base.specs.declared.page.PageImage.{PageImage}
+use Rattle.ostore_page_tags.specs.declared.layout.TheConstants.{FIRST_OPEN_PAGE}
 use Rattle.ostore_page_tags.specs.FreshPages.{plain_image, stored_schema, part_images, free_images, fresh_list}
 use Rattle.ostore_page_tags.proofs.allocation.FreshPages.{length-part_images, length-free_images}
 use Rattle.ostore_schema_layout.specs.declared.schema.Schema.{Schema}
@@ -32,9 +33,10 @@ use Rattle.ostore_turns.specs.Bounds.{IsBounded, IsResultWithin, AreBounded}
 use Rattle.ostore_turns.specs.RightResults.{IsRightResult, ResultsAreRight}
 use Rattle.ostore_turns.specs.TurnResults.{AllByClient, AllByTxn}
 use Rattle.ostore_graph_history.specs.Histories.{IsHistoryTo}
+use Rattle.ostore_graph_history.specs.Space.{IsBelowScript}
 use Rattle.ostore_client_turns.specs.declared.run.Run.{Run}
 use Rattle.ostore_client_turns.specs.Runs.{bounds_of, first_moment, script_of}
-use Rattle.ostore_cli.specs.FreshRuns.{all_pages, free_pages, fresh_bounds, EndsAs, AllEnd}
+use Rattle.ostore_cli.specs.FreshRuns.{all_pages, free_pages, used_pages, fresh_bounds, EndsAs, AllEnd}
 use Rattle.ostore_cli.specs.inside.Runs.{IsFreshRun, IsRunAlone}
 use Rattle.ostore_cli.proofs.FreshLaws.{fresh_frees}
 
@@ -51,7 +53,18 @@ fresh_long text =
 less : (a b c : ℕ) → a ≤ b → b < c → a < c
 less a b c low high = omega (arith, low, high)
 
+-- where all pages are free but the first ten, there is no data page
+no_data : (cache free pages growth : ℕ) → free_pages ≤ free → pages ≡ all_pages → cache + FIRST_OPEN_PAGE + free < 2 + pages + growth → cache < 2 + growth
+no_data cache free pages growth low all few = omega (arith, low, all, few)
+
 module _ (script : Script) (text : List ℕ) (one : LawOfOneGraph) (stands : StandsFor script.schema (fresh_list text all_pages) empty_graph) where
+  crowded_within : (cache : ℕ) → IsBelowScript script (fresh_list text all_pages) cache → cache < used_pages script
+  crowded_within cache within =
+      let same : within.graph ≡ empty_graph = one script.schema (fresh_list text all_pages) within.graph empty_graph within.stands stands in
+      no_data cache (length within.free) (length (fresh_list text all_pages)) (script_growth empty_graph script)
+      (fresh_frees text all_pages within.free (omega arith) (omega arith) within.has_free) (fresh_long text)
+      (subst (λ (g : Graph). cache + FIRST_OPEN_PAGE + length within.free < 2 + length (fresh_list text all_pages) + script_growth g script) same within.below)
+
   -- a bound over the fresh list is the one that is promised
   cause_within : (client : JobClient) (cause : Cause) → IsBounded (bounds_of script (fresh_list text all_pages)) client cause → IsBounded (fresh_bounds script) client cause
   cause_within client (Busy page seen found) within = tt
@@ -59,7 +72,7 @@ module _ (script : Script) (text : List ℕ) (one : LawOfOneGraph) (stands : Sta
       let same : within.graph ≡ empty_graph = one script.schema (fresh_list text all_pages) within.graph empty_graph within.stands stands in
       let fewer : length within.free < script_growth empty_graph script = subst (λ (g : Graph). length within.free < script_growth g script) same within.lacks in
       less free_pages (length within.free) (script_growth empty_graph script) (fresh_frees text all_pages within.free (omega arith) (omega arith) within.has_free) fewer
-  cause_within client (CacheFull used capacity) within = (within.0, within.1, subst (λ (n : ℕ). client.cache < n) (fresh_long text) within.2)
+  cause_within client (CacheFull used capacity) within = (within.0, within.1, subst (λ (n : ℕ). client.cache < n) (fresh_long text) within.2, crowded_within client.cache within.3)
   cause_within client (SpaceFull frames) within = (within.0, subst (λ (n : ℕ). client.frames < n) (fresh_long text) within.1)
   cause_within client Disk within = within
   cause_within client (Stopped after) within = within

@@ -1,5 +1,5 @@
 -- A job that runs on a fresh database, one client after the other.
-use Rattle.std.specs.Prelude.{◌≡◌, ℕ, ◌<◌, ◌≤◌, Bool, true, false, List}
+use Rattle.std.specs.Prelude.{◌≡◌, ◌⊎◌, ℕ, ◌+◌, ◌<◌, ◌≤◌, Bool, true, false, List}
 use Rattle.std.specs.List.{list_any, AllByRecursion}
 use Rattle.ostore_graph_model.specs.declared.commands.Txn.{Txn}
 use Rattle.ostore_graph_model.specs.declared.commands.Script.{Script}
@@ -23,18 +23,28 @@ all_pages = 1024
 abbrev pub free_pages : ℕ
 free_pages = 1014
 
--- No space is found only where fewer pages are free than the script's updates may take; no disk call fails.
+-- how many pages a transaction of the script uses, at most: page 0, the page of roots, and those that updates may take
+abbrev pub used_pages : Script → ℕ
+used_pages script = 2 + script_growth empty_graph script
+
+-- No space is found only where fewer pages are free than the script's updates may take, and a cache is full only where it
+-- is below the pages that a transaction may use; no disk call fails.
 abbrev pub fresh_bounds : Script → Bounds
 fresh_bounds script = record {
   pages = all_pages;
   lacks = free_pages < script_growth empty_graph script;
+  crowded = λ pages. pages < used_pages script;
   fails = ⊥;
 }
 
--- The script's updates may take no more pages than are free, and each client's cache and its frames hold all pages.
+-- a cache holds all pages, or those that a transaction may use
+abbrev pub IsAmple : Script → ℕ → Type 0
+IsAmple script cache = (all_pages ≤ cache) ⊎ (used_pages script ≤ cache)
+
+-- The script's updates may take no more pages than are free; each client's cache is ample, and its frames hold all pages.
 pub record HasRoom (script : Script) (clients : List JobClient) : Type 0 where
   pub growth : script_growth empty_graph script ≤ free_pages
-  pub options : AllByRecursion (λ client. (all_pages ≤ client.cache) × (all_pages ≤ client.frames)) clients
+  pub options : AllByRecursion (λ client. IsAmple script client.cache × (all_pages ≤ client.frames)) clients
 
 -- ---- what becomes of transactions
 

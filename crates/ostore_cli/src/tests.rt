@@ -36,6 +36,11 @@ fn texts_and_their_reports(rt: HostRuntime) -> Result<(), Fail> {
             TWICE,
             "a.1 commit 1\n  1.1\n  1.2\na.2 commit 2\n  1.3\n  2.1\n  refused 1 NoVariable\na.3 commit 3\ncommits 3\n",
         ),
+        // each cache has 2 pages more than the three commands may take
+        (
+            "type Part\nid int\njob\nclient a cache 8\nbegin\nnew $p Part 1\nnew $q Part 2\ncommit\nclient b cache 8\nbegin\nnew $r Part 1\ncommit\n",
+            "a.1 commit 1\n  1.1\n  2.1\nb.1 commit 2\n  1.2\ncommits 2\n",
+        ),
     ] {
         expect_run(&rt, rt.alloc(), text, 0, report)?;
     }
