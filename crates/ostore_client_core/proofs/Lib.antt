@@ -2,6 +2,7 @@ pub mod EntryLaws
 pub mod TiedLaws
 pub mod RecordLaws
 pub mod ReleaseLaws
+pub mod RetainLaws
 pub mod KeptLaws
 pub mod SortLaws
 pub mod GoesLaws

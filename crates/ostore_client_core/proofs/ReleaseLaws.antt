@@ -29,7 +29,7 @@ use Rattle.ostore_client_core.proofs.RecordLaws.{records_refl, records_then, cal
 abbrev pub after_page : Pages → ℕ → Bool → Pages
 after_page old page kept = cond kept (first_as Retained old page) (remove_entry (nat_eq page) old)
 
-keeps_elsewhere : {E : Type 0} (old new : Side E) (page : ℕ) → SameElsewhere old new page → (other : ℕ) → other ≢ page → keeps new other ≡ keeps old other
+pub keeps_elsewhere : {E : Type 0} (old new : Side E) (page : ℕ) → SameElsewhere old new page → (other : ℕ) → other ≢ page → keeps new other ≡ keeps old other
 keeps_elsewhere old new page same other apart = ap (λ (o : Option PageImage). is_some o) (same.kept other apart)
 
 elsewhere_at : {E : Type 0} (old new : Side E) (page other : ℕ) → SameElsewhere old new page → other ≢ page → SameAt old new other

@@ -5,5 +5,6 @@ pub mod Clients
 pub mod Attempts
 pub mod Calls
 pub mod Arrivals
+pub mod Retaining
 pub mod Commits
 pub mod inside

@@ -9,6 +9,7 @@ ghost use Rattle.ostore_client_cache.specs.Caches.{cached};
 ghost use Rattle.ostore_client_cache.specs.Entries.{is_in_use};
 ghost use Rattle.ostore_client_cache.specs.Releases.{numbers_of, released_all};
 ghost use Rattle.ostore_client_core.specs.Calls.{is_void, keeps};
+ghost use Rattle.ostore_client_core.specs.Retaining.{IsReleased};
 ghost use Rattle.ostore_client_core.specs.inside.Releasing.{GivesBack, HaveImages, EndsWith};
 
 use ostore_base::PageNo;
@@ -46,6 +47,7 @@ pub(crate) fn give_back<K: Kind, S: PageClaims<K>>(
     ensures same { SameRecords (S.tells service.old) (S.tells service.new) }
     ensures served { StillServes (S.serves service.old) (S.serves service.new) }
     ensures calm { NoBusy (S.tells service.old) (S.tells service.new) }
+    ensures answered { IsReleased S.releases void (S.tells service.new).mine page.0 }
 {
     if let Released::GivenUp = service.release(page) {
         return false;
@@ -88,6 +90,9 @@ pub(crate) fn release_all<K: Kind, S: PageClaims<K>>(
     ensures same { SameRecords (S.tells service.old) (S.tells service.new) }
     ensures served { StillServes (S.serves service.old) (S.serves service.new) }
     ensures calm { NoBusy (S.tells service.old) (S.tells service.new) }
+    ensures answered { All (λ page. IsReleased S.releases
+        (is_void ending (lookup (nat_eq page) cache.old.pages)) (S.tells service.new).mine page)
+        (numbers_of pages.now) }
 {
     for page in pages {
         let void = is_void(cache, *page, ending);

@@ -6,7 +6,8 @@ ghost use Rattle.ostore_page_service.specs.Told.{SameRecords, StillServes, NoBus
 ghost use Rattle.ostore_client_cache.specs.Entries.{is_in_use};
 ghost use Rattle.ostore_client_core.specs.declared.release.Ending.TheVariants.{Aborted};
 ghost use Rattle.ostore_client_core.specs.Clients.{entry_of, AreUsedFirst, IsIdle, IsOwn};
-ghost use Rattle.ostore_client_core.specs.Calls.{Releases, SameClient};
+ghost use Rattle.ostore_client_core.specs.Calls.{is_void, Releases, SameClient};
+ghost use Rattle.ostore_client_core.specs.Retaining.{IsReleased};
 ghost use Rattle.ostore_client_core.specs.inside.Releasing.{EndsWith, HaveImages};
 
 use crate::client::Client;
@@ -33,6 +34,9 @@ impl<'a, M: Mapper> Client<'a, M> {
         ensures same { SameRecords (S.tells service.old) (S.tells service.new) }
         ensures served { StillServes (S.serves service.old) (S.serves service.new) }
         ensures calm { NoBusy (S.tells service.old) (S.tells service.new) }
+        ensures answered { (page : ℕ) → is_in_use (entry_of self.old page) ≡ true
+            → IsReleased S.releases (is_void ending (entry_of self.old page))
+            (S.tells service.new).mine page }
     {
         self.cache.pages_differ();
         self.used.sort_unstable();
@@ -52,6 +56,9 @@ impl<'a, M: Mapper> Client<'a, M> {
         ensures same { SameRecords (S.tells service.old) (S.tells service.new) }
         ensures served { StillServes (S.serves service.old) (S.serves service.new) }
         ensures calm { NoBusy (S.tells service.old) (S.tells service.new) }
+        ensures answered { (page : ℕ) → is_in_use (entry_of self.old page) ≡ true
+            → IsReleased S.releases (is_void Aborted (entry_of self.old page))
+            (S.tells service.new).mine page }
     {
         self.release_used(service, Ending::Aborted);
     }

@@ -1,12 +1,14 @@
 //! Committing an attempt.
 
-ghost use Rattle.std.specs.Prelude.{◌≡◌, ◌≢◌, ◌<◌, ◌≤◌, ℕ, true, length, IfOk, IfErr, OnOk, OnErr};
+ghost use Rattle.std.specs.Prelude.{◌≡◌, ◌≢◌, ◌<◌, ◌≤◌, ℕ, true, false, length, IfOk, IfErr, OnOk, OnErr};
 ghost use Rattle.ostore_page_service.specs.Told.{StillServes};
 ghost use Rattle.ostore_client_core.specs.declared.release.Ending.TheVariants.{Committed};
-ghost use Rattle.ostore_client_core.specs.Clients.{IsIdle, IsOwn};
+ghost use Rattle.ostore_client_cache.specs.Entries.{is_in_use};
+ghost use Rattle.ostore_client_core.specs.Clients.{entry_of, IsIdle, IsOwn};
 ghost use Rattle.ostore_client_core.specs.Attempts.{Attempts};
 ghost use Rattle.ostore_client_core.specs.Calls.{Releases, SameClient};
 ghost use Rattle.ostore_client_core.specs.Commits.{FailsToCommit, Finishes, FitsClient, ServesStill, WritesOwned};
+ghost use Rattle.ostore_client_core.specs.Retaining.{IsReleased};
 ghost use Rattle.ostore_client_core.specs.inside.Writing.{AreFitOwned};
 
 use crate::client::Client;
@@ -64,6 +66,8 @@ impl<'a, M: Mapper> Client<'a, M> {
             FailsToCommit fault (S.tells service.old) (S.tells service.new) entry) }
         ensures client { OnErr result (self.new ≡ self.old) }
         ensures still { OnErr result (StillServes (S.serves service.old) (S.serves service.new)) }
+        ensures answered { OnOk result ((page : ℕ) → is_in_use (entry_of self.old page) ≡ true
+            → IsReleased S.releases false (S.tells service.new).mine page) }
     {
         let Ok(mut rec) = self.draft(entry.client, entry.ordinal) else {
             return Err(AttemptFault::OutOfMemory);
@@ -103,6 +107,8 @@ impl<'a, M: Mapper> Client<'a, M> {
             FailsToCommit fault (S.tells service.old) (S.tells service.new) entry) }
         ensures client { OnErr result (self.new ≡ self.old) }
         ensures still { OnErr result (StillServes (S.serves service.old) (S.serves service.new)) }
+        ensures answered { OnOk result ((page : ℕ) → is_in_use (entry_of self.old page) ≡ true
+            → IsReleased S.releases false (S.tells service.new).mine page) }
     {
         if entry.update {
             return self.update(service, turn, entry);

@@ -4,7 +4,9 @@ use Rattle.std.proofs.lemmas.List.{get_or-map, length-map}
 use Rattle.ostore_base.specs.declared.numbers.PageNo.{PageNo}
 use Rattle.ostore_client_cache.specs.Caches.{cached}
 use Rattle.ostore_client_cache.specs.Releases.{numbers_of}
-use Rattle.ostore_client_core.proofs.ReleaseLaws.{after_page, next_released, started, taken_all, others_same}
+use Rattle.ostore_client_core.specs.Calls.{is_void}
+use Rattle.ostore_client_core.proofs.ReleaseLaws.{after_page, next_released, still_there, started, taken_all, others_same}
+use Rattle.ostore_client_core.proofs.RetainLaws.{none_released, one_released}
 use Rattle.ostore_client_core.proofs.release.release_all.Goals as goal
 use Rattle.ostore_client_core.proofs.release.release_all.Goals.{then-give_back, else-give_back}
 
@@ -34,7 +36,11 @@ give_back-requires-clause-used g c =
     subst (λ (n : ℕ). IsSome (held n)) (read pages i 0 below) (c.loop-page.invariant.0.used i 0 (omega arith) (within pages i below))
 
 pub loop-page-init : goal.loop-page-init
-loop-page-init g c = (started c.args.ending c.args.cache.now (g.S.PageClaims.tells c.args.service.now) (numbers_of c.args.pages.now) c.requires.used, λ s h. h)
+loop-page-init g c = (
+  started c.args.ending c.args.cache.now (g.S.PageClaims.tells c.args.service.now) (numbers_of c.args.pages.now) c.requires.used,
+  λ s h. h,
+  none_released g.S.PageClaims.releases c.args.ending c.args.cache.now.pages (g.S.PageClaims.tells c.args.service.now).mine (numbers_of c.args.pages.now),
+)
 
 pub loop-page-preserved : goal.loop-page-preserved
 loop-page-preserved g c =
@@ -49,6 +55,10 @@ loop-page-preserved g c =
             | else-give_back w ↦ w.cache-is ∙ w.forget.ensures ∙ ap (λ (b : Bool). cached (after_page c.loop-page.cache.pages page.0 b) c.loop-page.cache.most) (sym w.if-give_back.false)
           ]),
       λ s h. c.give_back.ensures.served s (c.loop-page.invariant.1 s h),
+      one_released g.S.PageClaims.releases c.args.ending c.args.cache.now.pages (g.S.PageClaims.tells c.loop-page.service).mine (g.S.PageClaims.tells c.give_back.new.service).mine i page.0 (numbers_of pages) c.is_void-void.result
+          c.requires.ascending (within pages i below) (sym (read pages i page.0 below)) c.give_back.ensures.gives.others
+          (c.is_void-void.ensures ∙ ap (is_void c.args.ending) (still_there c.args.ending c.args.cache.now c.loop-page.cache (g.S.PageClaims.tells c.args.service.now) (g.S.PageClaims.tells c.loop-page.service) i page.0 (numbers_of pages) c.requires.ascending (within pages i below) (sym (read pages i page.0 below)) c.loop-page.invariant.0))
+          c.give_back.ensures.answered c.loop-page.invariant.2,
     )
 
 past : (pages : List PageNo) (i : ℕ) → length pages ≤ i → length (numbers_of pages) ≤ i
@@ -89,3 +99,8 @@ returns-clause-images g c = c.loop-page.invariant.0.images
 
 pub returns-clause-long : goal.returns-clause-long
 returns-clause-long g c = c.loop-page.invariant.0.long
+
+pub returns-clause-answered : goal.returns-clause-answered
+returns-clause-answered g c = λ k d below.
+    (let long = past c.args.pages.now c.loop-page.page-index c.loop-page-test.false in
+    c.loop-page.invariant.2 k d (omega arith) below)

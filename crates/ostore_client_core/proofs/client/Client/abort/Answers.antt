@@ -15,3 +15,6 @@ returns-clause-own g c =
 
 pub returns-clause-same_client : goal.returns-clause-same_client
 returns-clause-same_client g c = same_with c.release_used.ensures.released.pages
+
+pub returns-clause-answered : goal.returns-clause-answered
+returns-clause-answered g c = c.release_used.ensures.answered

@@ -9,6 +9,7 @@ use Rattle.ostore_client_cache.specs.Caches.{Cached}
 use Rattle.ostore_client_cache.specs.Releases.{numbers_of, released_all}
 use Rattle.ostore_client_core.specs.Clients.{ClientView, with_pages, entry_of}
 use Rattle.ostore_client_core.specs.Calls.{is_void, keeps}
+use Rattle.ostore_client_core.specs.Retaining.{IsReleased}
 use Rattle.ostore_client_core.proofs.EntryLaws.{none_used, none_first}
 use Rattle.ostore_client_core.proofs.KeptLaws.{kept_idle, view_pages}
 use Rattle.ostore_client_core.proofs.SortLaws.{ascends, each_listed, in_order, none_left, void_used}
@@ -70,3 +71,12 @@ returns-clause-idle g c = λ page. none_used_now g c page
 
 pub returns-clause-first : goal.returns-clause-first
 returns-clause-first g c = none_first c.release_all.new.cache.pages (none_used c.release_all.new.cache.pages c.pages_differ-2.ensures (none_used_now g c))
+
+pub returns-clause-answered : goal.returns-clause-answered
+returns-clause-answered g c = λ page used.
+    (let inside = c.self.inside in
+    let mine = (g.S.PageClaims.tells c.release_all.new.service).mine in
+    let listed = in_order inside.cache.pages inside.used.items c.sort_unstable.new.self.items c.deref.result.now c.sort_unstable.ensures.permutation c.self.invariant.listed c.deref.ensures.value in
+    let was : is_in_use (lookup (nat_eq page) inside.cache.pages) ≡ true = ap (λ (v : ClientView). is_in_use (entry_of v page)) c.self.view_is ∙ used in
+    subst (λ (v : ClientView). IsReleased g.S.PageClaims.releases (is_void c.args.ending (entry_of v page)) mine page) c.self.view_is
+    (All-contains (λ (p : ℕ). IsReleased g.S.PageClaims.releases (is_void c.args.ending (lookup (nat_eq p) inside.cache.pages)) mine p) (numbers_of c.deref.result.now) page c.release_all.ensures.answered ((listed page).1 was)))

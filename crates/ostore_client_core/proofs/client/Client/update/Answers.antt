@@ -1,7 +1,9 @@
-use Rattle.std.proofs.Common.{Bool, sym, subst, arith}
+use Rattle.std.proofs.Common.{◌≡◌, Bool, true, ℕ, false, sym, subst, arith}
+use Rattle.ostore_client_cache.specs.Entries.{is_in_use}
 use Rattle.ostore_page_service.specs.Told.{Numbers}
 use Rattle.ostore_client_core.specs.declared.release.Ending.TheVariants.{Committed}
-use Rattle.ostore_client_core.specs.Clients.{ClientView, stored_image, IsOwn}
+use Rattle.ostore_client_core.specs.Clients.{ClientView, entry_of, stored_image, IsOwn}
+use Rattle.ostore_client_core.specs.Retaining.{IsReleased}
 use Rattle.ostore_client_core.specs.Calls.{SameClient}
 use Rattle.ostore_client_core.specs.inside.Releasing.{EndsWith}
 use Rattle.ostore_client_core.proofs.CommitLaws.{fits}
@@ -62,3 +64,7 @@ returns-clause-own g c =
     let e = c.in-Err.ensures in
     subst (λ (v : ClientView). IsOwn later now v) (sym c.draft.ensures.same)
     (own_still (g.S.PageClaims.serves c.args.service.now) later told now c.args.self.now c.requires.runs.own e.still e.failed.service e.failed.pages)
+
+pub returns-in-Ok-commit-clause-answered : goal.returns-in-Ok-commit-clause-answered
+returns-in-Ok-commit-clause-answered g c =
+    subst (λ (v : ClientView). (page : ℕ) → is_in_use (entry_of v page) ≡ true → IsReleased g.S.PageClaims.releases false (g.S.PageClaims.tells c.release_used.new.service).mine page) c.draft.ensures.same c.release_used.ensures.answered
