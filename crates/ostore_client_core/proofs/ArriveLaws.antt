@@ -3,22 +3,25 @@ use Rattle.std.proofs.Common.{◌≡◌, ℕ, ◌<◌, nat_eq, ◌∷◌, length
 use Rattle.std.specs.Prelude.{IsSome}
 use Rattle.std.specs.List.{IsDistinct}
 use Rattle.std.specs.Map.{lookup, remove_entry, keys_of}
+use Rattle.ostore_base.specs.declared.numbers.PageNo.{PageNo}
 use Rattle.ostore_base.specs.declared.page.PageImage.{PageImage}
-use Rattle.ostore_page_service.specs.Told.{Told}
+use Rattle.ostore_page_service.specs.Told.{Side, Told}
 use Rattle.ostore_graph_model.specs.declared.commands.Script.{Script}
 use Rattle.ostore_graph_model.specs.declared.history.Entry.{Entry}
 use Rattle.ostore_client_cache.specs.declared.entries.CachedPage.{CachedPage}
 use Rattle.ostore_client_cache.specs.declared.entries.Hold.TheVariants.{Retained, InUse}
 use Rattle.ostore_client_cache.specs.Entries.{held_as, hold_of, imaged_as}
 use Rattle.ostore_client_cache.specs.Caches.{used_pages}
-use Rattle.ostore_client_core.specs.Arrivals.{Counts, ComesFirst, staying}
+use Rattle.ostore_client_core.specs.declared.fault.AttemptFault.{AttemptFault}
+use Rattle.ostore_client_core.specs.Arrivals.{Counts, ComesFirst, LeavesOthers, staying}
 use Rattle.ostore_client_core.specs.Attempts.{Attempts}
 use Rattle.ostore_client_core.specs.Calls.{one_more, Takes}
 use Rattle.ostore_client_core.specs.Clients.{ClientView, with_pages, entry_of}
 use Rattle.ostore_client_cache.specs.Entries.{first_as}
 use Rattle.ostore_client_core.proofs.EntryLaws.{Pages, some_of, held_there, first_is, set_here}
 use Rattle.ostore_client_core.proofs.BringLaws.{removed_set}
-use Rattle.ostore_client_core.proofs.NewLaws.{Trims, mid_rest, mid_fetches}
+use Rattle.ostore_client_core.proofs.TakeLaws.{WasLost, lost_pages}
+use Rattle.ostore_client_core.proofs.NewLaws.{Trims, IsLost, mid_rest, mid_fetches}
 
 -- a retained page that was kept
 pub kept_first : (old new : ClientView) (page : ℕ) → hold_of (entry_of old page) ≡ Some Retained → new ≡ with_pages (first_as InUse old.pages page) old → ComesFirst old new page
@@ -61,6 +64,19 @@ fetched_first old new page image retained takes =
       pages = t.pages ∙ ap (λ (o : Option CachedPage). (page, t.entry) ∷ staying o old page) (sym was.is);
       counts = subst (λ (o : Option CachedPage). Counts o old new) (sym was.is) (inr t.counted);
     }
+
+-- a retained page that was lost
+pub retained_leaves : (fault : AttemptFault) (old new : ClientView) (page : PageNo) (image : PageImage) (before after : Side Entry) → hold_of (entry_of old page.0) ≡ Some Retained → WasLost fault old new page image before after → LeavesOthers fault old new page.0
+retained_leaves fault old new page image before after retained w =
+    let was = held_there (entry_of old page.0) Retained retained in
+    subst (λ (f : AttemptFault). LeavesOthers f old new page.0) (sym w.is)
+    (lost_pages old new page image w.frames w.lost ∙ ap (λ (o : Option CachedPage). staying o old page.0) (sym was.is))
+
+-- a page that the client hadn't, and that was lost
+pub new_leaves : (later : Script → Type 0) (fault : AttemptFault) (told now : Told Entry) (old mid new : ClientView) (page : PageNo) (image : PageImage) (before after : Side Entry) → entry_of old page.0 ≡ None → WasLost fault mid new page image before after → IsLost later told now old mid new page.0 → LeavesOthers fault old new page.0
+new_leaves later fault told now old mid new page image before after absent w lost =
+    subst (λ (f : AttemptFault). LeavesOthers f old new page.0) (sym w.is)
+    (lost.pages ∙ ap (λ (o : Option CachedPage). staying o old page.0) (sym absent))
 
 -- a page that the client hadn't
 module _ (serves : Script → Type 0) (told : Told Entry) (old : ClientView) (page : ℕ) (runs : Attempts serves told old) (absent : entry_of old page ≡ None) (room : length (used_pages old.pages) < old.most) (distinct : IsDistinct nat_eq (keys_of old.pages)) where

@@ -44,6 +44,7 @@ way old page = surplus ((page, fresh) ∷ old.pages) old.most
 -- what is left of a page that was lost
 pub record IsLost (later : Script → Type 0) (was now : Told Entry) (old mid new : ClientView) (page : ℕ) : Type 0 where
   pub gone : entry_of new page ≡ None
+  pub pages : new.pages ≡ without_one (way old page) old.pages
   pub own : IsOwn later now new
   pub owns : OwnsNoMore old new
   pub client : SameClient old new
@@ -56,6 +57,10 @@ dropped_held (Some p) told now drops q = drops.held q
 dropped_owned : (o : Option PageNo) (told now : Told Entry) → Drops o told now → (q : ℕ) → now.mine.owned q ≡ told.mine.owned q
 dropped_owned None told now drops q = ap (λ (t : Told Entry). t.mine.owned q) drops
 dropped_owned (Some p) told now drops q = drops.owned q
+
+pub dropped_kept : (o : Option PageNo) (told now : Told Entry) → Drops o told now → (q : ℕ) → o ≢ Some (record { 0 = q }) → now.mine.kept q ≡ told.mine.kept q
+dropped_kept None told now drops q apart = ap (λ (t : Told Entry). t.mine.kept q) drops
+dropped_kept (Some p) told now drops q apart = drops.others q (λ same. apart (ap (λ (n : ℕ). Some (record { 0 = n })) (sym same)))
 
 -- the reached list is still reached, and has the images that are held
 pub reached_still : (s : Script) (told now : Told Entry) → SameRecords told now → ((q : ℕ) → now.mine.held q ≡ told.mine.held q) → ReachedFor s told → ReachedFor s now
@@ -174,6 +179,7 @@ module _ (serves : Script → Type 0) (told : Told Entry) (old : ClientView) (pa
         (ap (lookup (nat_eq other)) pages) in
         record {
           gone = gone;
+          pages = pages;
           own = lost_own serves later told now old mid new page runs.own served service extends known.0 gone (subst (IsAbsent now.mine) same (record { held = w.gone.held; owned = w.gone.owned; kept = w.gone.kept })) others
               (lost_short mid new page_no image w.frames l mid_short) (subst AreUsedFirst (sym pages) (trimmed_first (way old page) old.pages runs.own.first));
           owns = lost_owns (length told.opened) old new told.mine now.mine page gone others;

@@ -2,16 +2,17 @@
 use Rattle.std.proofs.Common.{◌≡◌, ◌≢◌, ◌<◌, ◌+◌, ℕ, Bool, true, false, nat_eq, List, length, get_or, refl, sym, ap, subst, ◌∙◌, arith, inl, inr}
 use Rattle.std.specs.Prelude.{◌&&◌, not, is_some, IsSome, Option}
 use Rattle.ostore_base.specs.declared.page.PageImage.{PageImage}
-use Rattle.std.specs.List.{AllPairs}
+use Rattle.std.specs.List.{AllPairs, Contains}
 use Rattle.std.specs.Map.{lookup}
 use Rattle.std.proofs.lemmas.Bool.{cases_lt}
 use Rattle.std.proofs.lemmas.List.{get_or_default}
+use Rattle.std.proofs.lemmas.List.Elements.{Contains-get_or}
 use Rattle.ostore_page_service.specs.declared.answers.Released.{Released as Answer}
 use Rattle.ostore_page_service.specs.declared.answers.Released.TheVariants as answers
 use Rattle.ostore_page_service.specs.Told.{Side, Told, SameElsewhere, EndsUse, DropsCopy, KeptAs}
 use Rattle.ostore_client_core.specs.declared.release.Ending.{Ending}
 use Rattle.ostore_client_core.specs.Calls.{is_void, keeps}
-use Rattle.ostore_client_core.specs.Retaining.{may_keep, IsReleased}
+use Rattle.ostore_client_core.specs.Retaining.{may_keep, IsReleased, KeepsCopies}
 use Rattle.ostore_client_core.proofs.EntryLaws.{Pages}
 use Rattle.ostore_client_core.proofs.ReleaseLaws.{keeps_elsewhere}
 
@@ -49,6 +50,12 @@ module _ {T E : Type 0} (releases : T → ℕ → Answer → T → Type 0) (endi
           (let more = ascends k i d less below in
           let here : page ≡ get_or pages i d = read ∙ get_or_default pages i page d below in
           omega arith)
+
+-- the copies of pages that aren't released stay
+pub copies_next : {E : Type 0} (was now then : Side E) (i page : ℕ) (pages : List ℕ) → i < length pages → page ≡ get_or pages i page → SameElsewhere now then page
+    → KeepsCopies (λ other. Contains pages other → ⊥) was now → KeepsCopies (λ other. Contains pages other → ⊥) was then
+copies_next was now then i page pages below read same so_far = λ other none.
+    same.kept other (λ equal. none (subst (λ (n : ℕ). Contains pages n) (sym (equal ∙ read)) (Contains-get_or pages i page below))) ∙ so_far other none
 
 -- ---- one page
 

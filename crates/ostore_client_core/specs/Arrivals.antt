@@ -1,12 +1,12 @@
 -- What becomes of a client's pages where one comes into use, and where the cache is full.
-use Rattle.std.specs.Prelude.{◌≡◌, ◌⊎◌, ℕ, false, nat_eq, List, ◌∷◌, length, Option, Some, None}
+use Rattle.std.specs.Prelude.{◌≡◌, ◌≢◌, ◌⊎◌, ℕ, false, nat_eq, List, ◌∷◌, length, Option, Some, None}
 use Rattle.std.specs.Map.{remove_entry}
 use Rattle.ostore_base.specs.declared.numbers.PageNo.{PageNo}
 use Rattle.ostore_client_cache.specs.declared.entries.CachedPage.{CachedPage}
 use Rattle.ostore_client_cache.specs.Caches.{fresh, surplus, used_pages, without_one}
 use Rattle.ostore_client_cache.specs.Entries.{is_in_use}
 use Rattle.ostore_client_core.specs.declared.fault.AttemptFault.{AttemptFault}
-use Rattle.ostore_client_core.specs.declared.fault.AttemptFault.TheVariants.{CacheFull}
+use Rattle.ostore_client_core.specs.declared.fault.AttemptFault.TheVariants.{Busy, NoSpace, CacheFull, SpaceFull, Commit, OutOfMemory}
 use Rattle.ostore_client_core.specs.Clients.{ClientView, entry_of, is_page_used}
 use Rattle.ostore_client_core.specs.Calls.{one_more}
 
@@ -47,3 +47,17 @@ pub record ComesFirst (old new : ClientView) (page : ℕ) : Type 0 where
 pub record Arrives (old new : ClientView) (page : ℕ) : Type 0 where
   pub there : is_page_used old page → new ≡ old
   pub first : is_in_use (entry_of old page) ≡ false → ComesFirst old new page
+
+-- where there was no frame, the pages are those that stay after an Ok; every other fault leaves the client as it was
+abbrev pub LeavesOthers : AttemptFault → ClientView → ClientView → ℕ → Type 0
+LeavesOthers (SpaceFull frames) old new page = new.pages ≡ staying (entry_of old page) old page
+LeavesOthers (Busy busy) old new page = Unit {0}
+LeavesOthers (NoSpace segment need) old new page = Unit {0}
+LeavesOthers (CacheFull used capacity) old new page = Unit {0}
+LeavesOthers (Commit fault) old new page = Unit {0}
+LeavesOthers OutOfMemory old new page = Unit {0}
+
+-- another page, which doesn't make way for this one
+pub record StaysBeside (client : ClientView) (page other : ℕ) : Type 0 where
+  pub apart : other ≢ page
+  pub stays : entry_of client page ≡ None → making_way client page ≢ Some (record { 0 = other })

@@ -9,6 +9,7 @@ ghost use Rattle.ostore_client_cache.specs.Entries.{is_in_use};
 ghost use Rattle.ostore_client_core.specs.Clients.{client_view, entry_of, AreFree, IsAbsent, IsIdle, IsOwn};
 ghost use Rattle.ostore_graph_model.specs.declared.commands.Script.{Script};
 ghost use Rattle.ostore_client_core.specs.Attempts.{Attempts};
+ghost use Rattle.ostore_client_core.specs.Retaining.{any_page, KeepsCopies};
 
 mod addresses;
 mod ending;
@@ -131,6 +132,8 @@ impl<'a, M: Mapper> Client<'a, M> {
         ensures runs { OnOk result
             (Attempts (S.serves service.new) (S.tells service.new) self.new) }
         ensures room { OnOk result (0 < (S.tells service.new).mine.room) }
+        ensures copies { KeepsCopies any_page (S.tells service.old).mine
+            (S.tells service.new).mine }
     {
         let _updates = update;
         service.reserve()

@@ -9,7 +9,7 @@ ghost use Rattle.ostore_client_cache.specs.Caches.{cached};
 ghost use Rattle.ostore_client_cache.specs.Entries.{is_in_use};
 ghost use Rattle.ostore_client_cache.specs.Releases.{numbers_of, released_all};
 ghost use Rattle.ostore_client_core.specs.Calls.{is_void, keeps};
-ghost use Rattle.ostore_client_core.specs.Retaining.{IsReleased};
+ghost use Rattle.ostore_client_core.specs.Retaining.{IsReleased, KeepsCopies};
 ghost use Rattle.ostore_client_core.specs.inside.Releasing.{GivesBack, HaveImages, EndsWith};
 
 use ostore_base::PageNo;
@@ -93,6 +93,8 @@ pub(crate) fn release_all<K: Kind, S: PageClaims<K>>(
     ensures answered { All (λ page. IsReleased S.releases
         (is_void ending (lookup (nat_eq page) cache.old.pages)) (S.tells service.new).mine page)
         (numbers_of pages.now) }
+    ensures copies { KeepsCopies (λ page. Contains (numbers_of pages.now) page → ⊥)
+        (S.tells service.old).mine (S.tells service.new).mine }
 {
     for page in pages {
         let void = is_void(cache, *page, ending);

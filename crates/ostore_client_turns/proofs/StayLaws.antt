@@ -1,5 +1,5 @@
 -- What a call for one client leaves of the seats of the others.
-use Rattle.std.proofs.Common.{◌≡◌, ◌<◌, ◌+◌, ℕ, sym, subst, ◌∙◌}
+use Rattle.std.proofs.Common.{◌<◌, ◌+◌, ℕ, sym, subst, ◌∙◌}
 use Rattle.std.specs.Prelude.{All}
 use Rattle.ostore_schema_layout.specs.declared.schema.Schema.{Schema}
 use Rattle.ostore_page_service.specs.Told.{Told}

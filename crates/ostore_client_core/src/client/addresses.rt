@@ -7,7 +7,8 @@ ghost use Rattle.ostore_address_space.specs.Frames.{page_in};
 ghost use Rattle.ostore_page_service.specs.Told.{SameRecords, StillServes, NoBusy};
 ghost use Rattle.ostore_client_cache.specs.Entries.{is_owned, with_bytes};
 ghost use Rattle.ostore_client_core.specs.Clients.{entry_of, is_page_used, with_pages, IsOwn};
-ghost use Rattle.ostore_client_core.specs.Arrivals.{cache_full, Arrives, NeedsOneMore};
+ghost use Rattle.ostore_client_core.specs.Arrivals.{cache_full, Arrives, LeavesOthers, NeedsOneMore, StaysBeside};
+ghost use Rattle.ostore_client_core.specs.Retaining.{any_page, KeepsCopies};
 ghost use Rattle.ostore_client_core.specs.Attempts.{Attempts, Narrows};
 ghost use Rattle.ostore_client_core.specs.Calls.{BringsPage, IsBusy, OwnsNoMore, OwnsPage, Refused, SameClient};
 
@@ -58,6 +59,11 @@ impl<'a, M: Mapper> Client<'a, M> {
             OnOk result (Arrives self.old self.new page.0)) }
         ensures full { IfSome (page_in self.old.frames.pages (address / 4096)) (λ page.
             NeedsOneMore self.old page.0 → result ≡ Err (cache_full self.old)) }
+        ensures leaves { IfSome (page_in self.old.frames.pages (address / 4096)) (λ page.
+            IfErr result (λ fault. LeavesOthers fault self.old self.new page.0)) }
+        ensures copies { IfSome (page_in self.old.frames.pages (address / 4096)) (λ page.
+            KeepsCopies (StaysBeside self.old page.0)
+            (S.tells service.old).mine (S.tells service.new).mine) }
     {
         let Some(page) = self.page_at(address) else {
             unreachable!();
@@ -89,6 +95,8 @@ impl<'a, M: Mapper> Client<'a, M> {
             × IsBusy fault (S.tells service.old) (S.tells service.new) page.0)) }
         ensures same { SameRecords (S.tells service.old) (S.tells service.new) }
         ensures served { StillServes (S.serves service.old) (S.serves service.new) }
+        ensures copies { KeepsCopies any_page (S.tells service.old).mine
+            (S.tells service.new).mine }
     {
         let Some(page) = self.page_at(address) else {
             unreachable!();

@@ -1,13 +1,13 @@
 //! The end of an attempt.
 
-ghost use Rattle.std.specs.Prelude.{◌≡◌, ◌<◌, ◌≤◌, ℕ, true, length, IsSome};
+ghost use Rattle.std.specs.Prelude.{◌≡◌, ◌<◌, ◌≤◌, ℕ, true, false, length, IsSome};
 ghost use Rattle.ostore_base.specs.declared.page.PageImage.{PageImage};
 ghost use Rattle.ostore_page_service.specs.Told.{SameRecords, StillServes, NoBusy};
 ghost use Rattle.ostore_client_cache.specs.Entries.{is_in_use};
 ghost use Rattle.ostore_client_core.specs.declared.release.Ending.TheVariants.{Aborted};
 ghost use Rattle.ostore_client_core.specs.Clients.{entry_of, AreUsedFirst, IsIdle, IsOwn};
 ghost use Rattle.ostore_client_core.specs.Calls.{is_void, Releases, SameClient};
-ghost use Rattle.ostore_client_core.specs.Retaining.{IsReleased};
+ghost use Rattle.ostore_client_core.specs.Retaining.{IsReleased, KeepsCopies};
 ghost use Rattle.ostore_client_core.specs.inside.Releasing.{EndsWith, HaveImages};
 
 use crate::client::Client;
@@ -37,6 +37,8 @@ impl<'a, M: Mapper> Client<'a, M> {
         ensures answered { (page : ℕ) → is_in_use (entry_of self.old page) ≡ true
             → IsReleased S.releases (is_void ending (entry_of self.old page))
             (S.tells service.new).mine page }
+        ensures copies { KeepsCopies (λ page. is_in_use (entry_of self.old page) ≡ false)
+            (S.tells service.old).mine (S.tells service.new).mine }
     {
         self.cache.pages_differ();
         self.used.sort_unstable();
@@ -59,6 +61,8 @@ impl<'a, M: Mapper> Client<'a, M> {
         ensures answered { (page : ℕ) → is_in_use (entry_of self.old page) ≡ true
             → IsReleased S.releases (is_void Aborted (entry_of self.old page))
             (S.tells service.new).mine page }
+        ensures copies { KeepsCopies (λ page. is_in_use (entry_of self.old page) ≡ false)
+            (S.tells service.old).mine (S.tells service.new).mine }
     {
         self.release_used(service, Ending::Aborted);
     }

@@ -8,7 +8,8 @@ ghost use Rattle.ostore_client_cache.specs.declared.entries.Hold.TheVariants.{Re
 ghost use Rattle.ostore_client_cache.specs.Entries.{hold_of, is_in_use};
 ghost use Rattle.ostore_client_cache.specs.Caches.{used_pages};
 ghost use Rattle.ostore_client_core.specs.Clients.{entry_of, is_page_used, IsOwn};
-ghost use Rattle.ostore_client_core.specs.Arrivals.{cache_full, Arrives, ComesFirst, NeedsOneMore};
+ghost use Rattle.ostore_client_core.specs.Arrivals.{cache_full, Arrives, ComesFirst, LeavesOthers, NeedsOneMore, StaysBeside};
+ghost use Rattle.ostore_client_core.specs.Retaining.{KeepsCopies};
 ghost use Rattle.ostore_client_core.specs.Attempts.{Attempts, Narrows};
 ghost use Rattle.ostore_client_core.specs.Calls.{BringsPage, IsFitPage, OwnsNoMore, SameClient, Takes, Loses, Refused, IsAddressOf};
 
@@ -80,6 +81,9 @@ impl<'a, M: Mapper> Client<'a, M> {
         ensures same { SameRecords (S.tells service.old) (S.tells service.new) }
         ensures served { StillServes (S.serves service.old) (S.serves service.new) }
         ensures first { OnOk result (ComesFirst self.old self.new page.0) }
+        ensures leaves { IfErr result (λ fault. LeavesOthers fault self.old self.new page.0) }
+        ensures copies { KeepsCopies (StaysBeside self.old page.0)
+            (S.tells service.old).mine (S.tells service.new).mine }
     {
         self.pages_differ();
         let mut image = PageImage::zeroed();
@@ -121,6 +125,9 @@ impl<'a, M: Mapper> Client<'a, M> {
         ensures same { SameRecords (S.tells service.old) (S.tells service.new) }
         ensures served { StillServes (S.serves service.old) (S.serves service.new) }
         ensures first { OnOk result (ComesFirst self.old self.new page.0) }
+        ensures leaves { IfErr result (λ fault. LeavesOthers fault self.old self.new page.0) }
+        ensures copies { KeepsCopies (StaysBeside self.old page.0)
+            (S.tells service.old).mine (S.tells service.new).mine }
     {
         self.pages_differ();
         if self.admit(page).is_err() {
@@ -164,6 +171,9 @@ impl<'a, M: Mapper> Client<'a, M> {
         ensures served { StillServes (S.serves service.old) (S.serves service.new) }
         ensures arrives { OnOk result (Arrives self.old self.new page.0) }
         ensures full { NeedsOneMore self.old page.0 → result ≡ Err (cache_full self.old) }
+        ensures leaves { IfErr result (λ fault. LeavesOthers fault self.old self.new page.0) }
+        ensures copies { KeepsCopies (StaysBeside self.old page.0)
+            (S.tells service.old).mine (S.tells service.new).mine }
     {
         if self.cache.is_in_use(page) {
             return Ok(());
@@ -200,7 +210,7 @@ impl<'a, M: Mapper> Client<'a, M> {
     /// claim: a page that the image needs has no frame, and none is free. The page was then fetched and released, and
     /// its copy dropped. Neither of the two comes where there is room for all pages of the database. Where the client
     /// has as many pages as there may be and hadn't this one, the retained page that was used least recently is
-    /// dropped, directly after the claim.
+    /// dropped, directly after the claim. All other pages stay, also where SpaceFull comes.
     pub fn enter<S: PageService<GraphKind>>(
         &mut self,
         service: &mut S,
@@ -223,6 +233,9 @@ impl<'a, M: Mapper> Client<'a, M> {
         ensures served { StillServes (S.serves service.old) (S.serves service.new) }
         ensures arrives { OnOk result (Arrives self.old self.new page.0) }
         ensures full { NeedsOneMore self.old page.0 → result ≡ Err (cache_full self.old) }
+        ensures leaves { IfErr result (λ fault. LeavesOthers fault self.old self.new page.0) }
+        ensures copies { KeepsCopies (StaysBeside self.old page.0)
+            (S.tells service.old).mine (S.tells service.new).mine }
     {
         if let Err(fault) = self.bring(service, page) {
             return Err(fault);

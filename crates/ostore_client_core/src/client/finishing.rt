@@ -8,7 +8,7 @@ ghost use Rattle.ostore_client_core.specs.Clients.{entry_of, IsIdle, IsOwn};
 ghost use Rattle.ostore_client_core.specs.Attempts.{Attempts};
 ghost use Rattle.ostore_client_core.specs.Calls.{Releases, SameClient};
 ghost use Rattle.ostore_client_core.specs.Commits.{FailsToCommit, Finishes, FitsClient, ServesStill, WritesOwned};
-ghost use Rattle.ostore_client_core.specs.Retaining.{IsReleased};
+ghost use Rattle.ostore_client_core.specs.Retaining.{IsReleased, KeepsCopies};
 ghost use Rattle.ostore_client_core.specs.inside.Writing.{AreFitOwned};
 
 use crate::client::Client;
@@ -68,6 +68,8 @@ impl<'a, M: Mapper> Client<'a, M> {
         ensures still { OnErr result (StillServes (S.serves service.old) (S.serves service.new)) }
         ensures answered { OnOk result ((page : ℕ) → is_in_use (entry_of self.old page) ≡ true
             → IsReleased S.releases false (S.tells service.new).mine page) }
+        ensures copies { KeepsCopies (λ page. is_in_use (entry_of self.old page) ≡ false)
+            (S.tells service.old).mine (S.tells service.new).mine }
     {
         let Ok(mut rec) = self.draft(entry.client, entry.ordinal) else {
             return Err(AttemptFault::OutOfMemory);
@@ -109,6 +111,8 @@ impl<'a, M: Mapper> Client<'a, M> {
         ensures still { OnErr result (StillServes (S.serves service.old) (S.serves service.new)) }
         ensures answered { OnOk result ((page : ℕ) → is_in_use (entry_of self.old page) ≡ true
             → IsReleased S.releases false (S.tells service.new).mine page) }
+        ensures copies { KeepsCopies (λ page. is_in_use (entry_of self.old page) ≡ false)
+            (S.tells service.old).mine (S.tells service.new).mine }
     {
         if entry.update {
             return self.update(service, turn, entry);

@@ -6,6 +6,7 @@ ghost use Rattle.ostore_page_service.specs.Told.{SameRecords, StillServes, NoBus
 ghost use Rattle.ostore_client_cache.specs.Entries.{used_image};
 ghost use Rattle.ostore_client_core.specs.Clients.{entry_of, is_page_used, IsOwn};
 ghost use Rattle.ostore_client_core.specs.Attempts.{Attempts, Narrows};
+ghost use Rattle.ostore_client_core.specs.Retaining.{any_page, KeepsCopies};
 ghost use Rattle.ostore_client_core.specs.Calls.{lent, OwnsPage, IsBusy, SameClient};
 
 use crate::client::Client;
@@ -58,6 +59,8 @@ impl<'a, M: Mapper> Client<'a, M> {
         ensures served { StillServes (S.serves service.old) (S.serves service.new) }
         ensures calm { OnOk result (NoBusy (S.tells service.old) (S.tells service.new)) }
         ensures touched { Touches (S.tells service.old) (S.tells service.new) page.0 }
+        ensures copies { KeepsCopies any_page (S.tells service.old).mine
+            (S.tells service.new).mine }
     {
         if let Err(busy) = service.claim_own(page) {
             return Err(AttemptFault::Busy(busy));

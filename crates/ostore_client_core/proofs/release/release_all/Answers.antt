@@ -1,4 +1,4 @@
-use Rattle.std.proofs.Common.{◌≡◌, ◌<◌, ◌≤◌, ℕ, List, Bool, length, get_or, sym, ap, subst, ◌∙◌, arith}
+use Rattle.std.proofs.Common.{◌≡◌, ◌<◌, ◌≤◌, ℕ, List, Bool, length, get_or, refl, sym, ap, subst, ◌∙◌, arith}
 use Rattle.std.specs.Prelude.{IsSome}
 use Rattle.std.proofs.lemmas.List.{get_or-map, length-map}
 use Rattle.ostore_base.specs.declared.numbers.PageNo.{PageNo}
@@ -6,7 +6,7 @@ use Rattle.ostore_client_cache.specs.Caches.{cached}
 use Rattle.ostore_client_cache.specs.Releases.{numbers_of}
 use Rattle.ostore_client_core.specs.Calls.{is_void}
 use Rattle.ostore_client_core.proofs.ReleaseLaws.{after_page, next_released, still_there, started, taken_all, others_same}
-use Rattle.ostore_client_core.proofs.RetainLaws.{none_released, one_released}
+use Rattle.ostore_client_core.proofs.RetainLaws.{none_released, one_released, copies_next}
 use Rattle.ostore_client_core.proofs.release.release_all.Goals as goal
 use Rattle.ostore_client_core.proofs.release.release_all.Goals.{then-give_back, else-give_back}
 
@@ -40,6 +40,7 @@ loop-page-init g c = (
   started c.args.ending c.args.cache.now (g.S.PageClaims.tells c.args.service.now) (numbers_of c.args.pages.now) c.requires.used,
   λ s h. h,
   none_released g.S.PageClaims.releases c.args.ending c.args.cache.now.pages (g.S.PageClaims.tells c.args.service.now).mine (numbers_of c.args.pages.now),
+  (λ page none. refl),
 )
 
 pub loop-page-preserved : goal.loop-page-preserved
@@ -59,6 +60,7 @@ loop-page-preserved g c =
           c.requires.ascending (within pages i below) (sym (read pages i page.0 below)) c.give_back.ensures.gives.others
           (c.is_void-void.ensures ∙ ap (is_void c.args.ending) (still_there c.args.ending c.args.cache.now c.loop-page.cache (g.S.PageClaims.tells c.args.service.now) (g.S.PageClaims.tells c.loop-page.service) i page.0 (numbers_of pages) c.requires.ascending (within pages i below) (sym (read pages i page.0 below)) c.loop-page.invariant.0))
           c.give_back.ensures.answered c.loop-page.invariant.2,
+      copies_next (g.S.PageClaims.tells c.args.service.now).mine (g.S.PageClaims.tells c.loop-page.service).mine (g.S.PageClaims.tells c.give_back.new.service).mine i page.0 (numbers_of pages) (within pages i below) (sym (read pages i page.0 below)) c.give_back.ensures.gives.others c.loop-page.invariant.3,
     )
 
 past : (pages : List PageNo) (i : ℕ) → length pages ≤ i → length (numbers_of pages) ≤ i
@@ -104,3 +106,6 @@ pub returns-clause-answered : goal.returns-clause-answered
 returns-clause-answered g c = λ k d below.
     (let long = past c.args.pages.now c.loop-page.page-index c.loop-page-test.false in
     c.loop-page.invariant.2 k d (omega arith) below)
+
+pub returns-clause-copies : goal.returns-clause-copies
+returns-clause-copies g c = c.loop-page.invariant.3

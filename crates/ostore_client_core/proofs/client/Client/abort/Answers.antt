@@ -18,3 +18,6 @@ returns-clause-same_client g c = same_with c.release_used.ensures.released.pages
 
 pub returns-clause-answered : goal.returns-clause-answered
 returns-clause-answered g c = c.release_used.ensures.answered
+
+pub returns-clause-copies : goal.returns-clause-copies
+returns-clause-copies g c = c.release_used.ensures.copies

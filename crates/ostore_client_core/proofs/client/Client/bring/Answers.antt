@@ -44,3 +44,9 @@ pub returns-then-is_in_use-clause-full : goal.returns-then-is_in_use-clause-full
 returns-then-is_in_use-clause-full g c =
     let used : is_in_use (entry_of c.args.self.now c.args.page.0) ≡ true = search rules in
     λ needs. absurd (false≢true (sym needs.unused ∙ used))
+
+pub returns-then-is_in_use-clause-copies : goal.returns-then-is_in_use-clause-copies
+returns-then-is_in_use-clause-copies g c = λ other stays. refl
+
+pub returns-then-is_full-clause-copies : goal.returns-then-is_full-clause-copies
+returns-then-is_full-clause-copies g c = λ other stays. refl

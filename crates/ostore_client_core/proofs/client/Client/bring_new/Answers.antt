@@ -1,4 +1,4 @@
-use Rattle.std.proofs.Common.{◌≡◌, ◌<◌, List, ◌∷◌, length, refl, sym, ap, subst}
+use Rattle.std.proofs.Common.{◌≡◌, ◌<◌, List, ◌∷◌, length, refl, sym, ap, subst, ◌∙◌}
 use Rattle.std.specs.List.{AllByRecursion}
 use Rattle.ostore_base.specs.declared.numbers.PageNo.{PageNo}
 use Rattle.ostore_base.specs.declared.page.PageImage.{PageImage}
@@ -12,10 +12,10 @@ use Rattle.ostore_client_core.specs.Clients.{ClientView, with_pages, IsOwn}
 use Rattle.ostore_client_core.specs.Calls.{Drops, IsFitPage}
 use Rattle.ostore_client_core.proofs.RecordLaws.{records_then, calm_then}
 use Rattle.ostore_client_core.proofs.GoesLaws.{same_client_of, same_client_is, own_still}
-use Rattle.ostore_client_core.proofs.ArriveLaws.{new_first}
+use Rattle.ostore_client_core.proofs.ArriveLaws.{new_first, new_leaves}
 use Rattle.ostore_client_core.proofs.BringLaws.{Comes, base_of, fit_of, wanted_of, owns_is, new_use, takes_use, comes_narrows, comes_owns, comes_brings}
 use Rattle.ostore_client_core.proofs.TakeLaws.{was_lost, lacks_frames}
-use Rattle.ostore_client_core.proofs.NewLaws.{Trims, IsLost, way, absent_is, may_drop, mid_schema, mid_frames, mid_fetches, mid_there, mid_room, new_taken, new_lost, admitted_ok, drops_calm, forgotten, admitted_idle}
+use Rattle.ostore_client_core.proofs.NewLaws.{Trims, IsLost, way, absent_is, may_drop, mid_schema, mid_frames, mid_fetches, mid_there, mid_room, new_taken, new_lost, admitted_ok, drops_calm, dropped_kept, forgotten, admitted_idle}
 use Rattle.ostore_client_core.proofs.client.Client.bring_new.Given.{Over}
 use Rattle.ostore_client_core.proofs.client.Client.bring_new.Goals as goal
 
@@ -211,3 +211,40 @@ returns-in_default-clause-first g c =
     let old : ClientView = c.args.self.now in
     let is : c.admit.new.self ≡ with_pages ((c.args.page.0, fresh) ∷ old.pages) old = admitted_ok _ c.admit.result c.admit.ensures.ok c.if-is_err.ensures.value in
     new_first (g.S.PageClaims.serves c.args.service.now) told old c.args.page.0 c.requires.runs c.requires.absent c.requires.room c.pages_differ.ensures c.admit.new.self c.trim.new.self c.take.new.self c.claim_read.new.into (record { admitted_is = is; mid_is = c.trim.ensures.pages }) c.in_default.ensures.taken
+
+pub returns-in-Err-take-clause-leaves : goal.returns-in-Err-take-clause-leaves
+returns-in-Err-take-clause-leaves g c =
+    let told : Told Entry = g.S.PageClaims.tells c.args.service.now in
+    let dropped : Told Entry = g.S.PageClaims.tells c.trim.new.service in
+    let now : Told Entry = g.S.PageClaims.tells c.take.new.service in
+    new_leaves (g.S.PageClaims.serves c.take.new.service) c.in-Err-take.fault told now c.args.self.now c.trim.new.self c.take.new.self c.args.page c.claim_read.new.into dropped.mine now.mine c.requires.absent
+    (was_lost c.in-Err-take.fault c.trim.new.self c.take.new.self c.args.page c.claim_read.new.into dropped.mine now.mine c.in-Err-take.ensures.lost) (lost_on g c)
+
+-- ---- the copies of other pages
+
+pub returns-in-Err-clause-copies : goal.returns-in-Err-clause-copies
+returns-in-Err-clause-copies g c = λ other stays. c.in-Err.ensures.refused.pages.kept other
+
+pub returns-in-Err-take-clause-copies : goal.returns-in-Err-take-clause-copies
+returns-in-Err-take-clause-copies g c =
+    let told : Told Entry = g.S.PageClaims.tells c.args.service.now in
+    let claimed : Told Entry = g.S.PageClaims.tells c.claim_read.new.self in
+    let dropped : Told Entry = g.S.PageClaims.tells c.trim.new.service in
+    let old : ClientView = c.args.self.now in
+    let is : c.admit.new.self ≡ with_pages ((c.args.page.0, fresh) ∷ old.pages) old = admitted_ok _ c.admit.result c.admit.ensures.ok c.if-is_err.ensures.value in
+    let use_is : InUse told claimed c.args.page.0 c.claim_read.new.into = new_use c.in-Ok.field-0 told claimed c.args.page.0 _ c.claim_read.new.into (absent_is (g.S.PageClaims.serves c.args.service.now) told old c.args.page.0 c.requires.runs c.requires.absent c.requires.room c.pages_differ.ensures).kept c.in-Ok.ensures.claimed in
+    let drops : Drops (way old c.args.page.0) claimed dropped = subst (λ (v : ClientView). Drops (surplus v.pages v.most) claimed dropped) is c.trim.ensures.dropped in
+    let now : Told Entry = g.S.PageClaims.tells c.take.new.service in
+    let w = was_lost c.in-Err-take.fault c.trim.new.self c.take.new.self c.args.page c.claim_read.new.into dropped.mine now.mine c.in-Err-take.ensures.lost in
+    λ other stays. w.gone.others.kept other stays.apart ∙ dropped_kept (way old c.args.page.0) claimed dropped drops other (stays.stays c.requires.absent) ∙ use_is.others.kept other stays.apart
+
+pub returns-in_default-clause-copies : goal.returns-in_default-clause-copies
+returns-in_default-clause-copies g c =
+    let told : Told Entry = g.S.PageClaims.tells c.args.service.now in
+    let claimed : Told Entry = g.S.PageClaims.tells c.claim_read.new.self in
+    let dropped : Told Entry = g.S.PageClaims.tells c.trim.new.service in
+    let old : ClientView = c.args.self.now in
+    let is : c.admit.new.self ≡ with_pages ((c.args.page.0, fresh) ∷ old.pages) old = admitted_ok _ c.admit.result c.admit.ensures.ok c.if-is_err.ensures.value in
+    let use_is : InUse told claimed c.args.page.0 c.claim_read.new.into = new_use c.in-Ok.field-0 told claimed c.args.page.0 _ c.claim_read.new.into (absent_is (g.S.PageClaims.serves c.args.service.now) told old c.args.page.0 c.requires.runs c.requires.absent c.requires.room c.pages_differ.ensures).kept c.in-Ok.ensures.claimed in
+    let drops : Drops (way old c.args.page.0) claimed dropped = subst (λ (v : ClientView). Drops (surplus v.pages v.most) claimed dropped) is c.trim.ensures.dropped in
+    λ other stays. ap (λ (t : Told Entry). t.mine.kept other) (ap g.S.PageClaims.tells c.in_default.ensures.still) ∙ dropped_kept (way old c.args.page.0) claimed dropped drops other (stays.stays c.requires.absent) ∙ use_is.others.kept other stays.apart

@@ -9,7 +9,7 @@ use Rattle.ostore_graph_model.specs.declared.history.Entry.{Entry}
 use Rattle.ostore_client_core.specs.Clients.{ClientView, entry_of, stored_image, IsOwn}
 use Rattle.ostore_client_core.specs.Calls.{OwnsNoMore}
 use Rattle.ostore_client_cache.specs.declared.entries.CachedPage.{CachedPage}
-use Rattle.ostore_client_core.proofs.ArriveLaws.{kept_first, fetched_first}
+use Rattle.ostore_client_core.proofs.ArriveLaws.{kept_first, fetched_first, retained_leaves}
 use Rattle.ostore_client_core.proofs.EntryLaws.{gone_here}
 use Rattle.ostore_client_core.proofs.RecordLaws.{records_then, calm_then}
 use Rattle.ostore_client_core.proofs.GoesLaws.{same_client_of, own_still}
@@ -194,3 +194,33 @@ returns-in-Ok-Kept-clause-first g c = kept_first c.args.self.now c.use_page.new.
 
 pub returns-in_default-clause-first : goal.returns-in_default-clause-first
 returns-in_default-clause-first g c = fetched_first c.args.self.now c.take.new.self c.args.page.0 c.claim_read.new.into c.requires.there c.in_default.ensures.taken
+
+pub returns-in-Err-take-clause-leaves : goal.returns-in-Err-take-clause-leaves
+returns-in-Err-take-clause-leaves g c =
+    let claimed : Told Entry = g.S.PageClaims.tells c.claim_read.new.self in
+    let now : Told Entry = g.S.PageClaims.tells c.take.new.service in
+    retained_leaves c.in-Err-take.fault c.args.self.now c.take.new.self c.args.page c.claim_read.new.into claimed.mine now.mine c.requires.there
+    (was_lost c.in-Err-take.fault c.args.self.now c.take.new.self c.args.page c.claim_read.new.into claimed.mine now.mine c.in-Err-take.ensures.lost)
+
+-- ---- the copies of other pages
+
+pub returns-in-Ok-Kept-clause-copies : goal.returns-in-Ok-Kept-clause-copies
+returns-in-Ok-Kept-clause-copies g c = λ other stays.
+    (kept_use c.in-Ok-Kept.field-0 (g.S.PageClaims.tells c.args.service.now) (g.S.PageClaims.tells c.claim_read.new.self) c.args.page.0 _ c.claim_read.new.into c.in-Ok-Kept.field-0-is c.in-Ok-Kept.ensures.claimed).2.others.kept other stays.apart
+
+pub returns-in-Err-clause-copies : goal.returns-in-Err-clause-copies
+returns-in-Err-clause-copies g c = λ other stays. c.in-Err.ensures.refused.pages.kept other
+
+pub returns-in-Err-take-clause-copies : goal.returns-in-Err-take-clause-copies
+returns-in-Err-take-clause-copies g c =
+    let claimed : Told Entry = g.S.PageClaims.tells c.claim_read.new.self in
+    let now : Told Entry = g.S.PageClaims.tells c.take.new.service in
+    let w = was_lost c.in-Err-take.fault c.args.self.now c.take.new.self c.args.page c.claim_read.new.into claimed.mine now.mine c.in-Err-take.ensures.lost in
+    let use_is : InUse (g.S.PageClaims.tells c.args.service.now) claimed c.args.page.0 c.claim_read.new.into = fetched_use c.in-Ok-Fetched.field-0 (g.S.PageClaims.tells c.args.service.now) claimed c.args.page.0 _ c.claim_read.new.into c.in-Ok-Fetched.field-0-is c.in-Ok-Fetched.ensures.claimed in
+    λ other stays. w.gone.others.kept other stays.apart ∙ use_is.others.kept other stays.apart
+
+pub returns-in_default-clause-copies : goal.returns-in_default-clause-copies
+returns-in_default-clause-copies g c =
+    let claimed : Told Entry = g.S.PageClaims.tells c.claim_read.new.self in
+    let use_is : InUse (g.S.PageClaims.tells c.args.service.now) claimed c.args.page.0 c.claim_read.new.into = fetched_use c.in-Ok-Fetched.field-0 (g.S.PageClaims.tells c.args.service.now) claimed c.args.page.0 _ c.claim_read.new.into c.in-Ok-Fetched.field-0-is c.in-Ok-Fetched.ensures.claimed in
+    λ other stays. ap (λ (t : Told Entry). t.mine.kept other) (ap g.S.PageClaims.tells c.in_default.ensures.still) ∙ use_is.others.kept other stays.apart

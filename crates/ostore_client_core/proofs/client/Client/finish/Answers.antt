@@ -1,4 +1,4 @@
-use Rattle.std.proofs.Common.{Bool, [], sym, subst, arith}
+use Rattle.std.proofs.Common.{Bool, [], sym, subst, ◌∙◌, arith}
 use Rattle.ostore_page_service.specs.Told.{Numbers}
 use Rattle.ostore_client_core.specs.declared.release.Ending.TheVariants.{Committed}
 use Rattle.ostore_client_core.specs.Clients.{stored_image}
@@ -50,3 +50,6 @@ returns-clause-same_client g c = same_with c.release_used.ensures.released.pages
 
 pub returns-clause-answered : goal.returns-clause-answered
 returns-clause-answered g c = c.release_used.ensures.answered
+
+pub returns-clause-copies : goal.returns-clause-copies
+returns-clause-copies g c = λ page idle. c.release_used.ensures.copies page idle ∙ c.commit_read-number.ensures.added.kept page

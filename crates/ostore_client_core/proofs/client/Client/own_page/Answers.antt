@@ -61,3 +61,9 @@ returns-clause-own g c = (narrowed g c).runs.own
 pub returns-in-Err-clause-own : goal.returns-in-Err-clause-own
 returns-in-Err-clause-own g c =
     own_still (g.S.PageClaims.serves c.args.service.now) (g.S.PageClaims.serves c.claim_own.new.self) (g.S.PageClaims.tells c.args.service.now) (g.S.PageClaims.tells c.claim_own.new.self) c.args.self.now c.requires.runs.own c.in-Err.ensures.served c.in-Err.ensures.same.service c.in-Err.ensures.refused.pages
+
+pub returns-clause-copies : goal.returns-clause-copies
+returns-clause-copies g c = λ page any. c.in_default.ensures.claimed.kept page
+
+pub returns-in-Err-clause-copies : goal.returns-in-Err-clause-copies
+returns-in-Err-clause-copies g c = λ page any. c.in-Err.ensures.refused.pages.kept page

@@ -2,6 +2,7 @@ use Rattle.std.proofs.Common.{◌≡◌, ◌↔◌, ◌<◌, ℕ, true, false, n
 use Rattle.std.specs.Prelude.{IsSome}
 use Rattle.std.specs.List.{AllPairs, Contains}
 use Rattle.std.specs.Map.{lookup}
+use Rattle.std.proofs.lemmas.Bool.{false≢true}
 use Rattle.std.proofs.lemmas.List.Elements.{All-contains}
 use Rattle.ostore_base.specs.declared.numbers.PageNo.{PageNo}
 use Rattle.ostore_client_cache.specs.Entries.{is_in_use}
@@ -80,3 +81,10 @@ returns-clause-answered g c = λ page used.
     let was : is_in_use (lookup (nat_eq page) inside.cache.pages) ≡ true = ap (λ (v : ClientView). is_in_use (entry_of v page)) c.self.view_is ∙ used in
     subst (λ (v : ClientView). IsReleased g.S.PageClaims.releases (is_void c.args.ending (entry_of v page)) mine page) c.self.view_is
     (All-contains (λ (p : ℕ). IsReleased g.S.PageClaims.releases (is_void c.args.ending (lookup (nat_eq p) inside.cache.pages)) mine p) (numbers_of c.deref.result.now) page c.release_all.ensures.answered ((listed page).1 was)))
+
+pub returns-clause-copies : goal.returns-clause-copies
+returns-clause-copies g c = λ page idle.
+    (let inside = c.self.inside in
+    let listed = in_order inside.cache.pages inside.used.items c.sort_unstable.new.self.items c.deref.result.now c.sort_unstable.ensures.permutation c.self.invariant.listed c.deref.ensures.value in
+    let unused : is_in_use (lookup (nat_eq page) inside.cache.pages) ≡ false = ap (λ (v : ClientView). is_in_use (entry_of v page)) c.self.view_is ∙ idle in
+    c.release_all.ensures.copies page (λ has. false≢true (sym unused ∙ (listed page).0 has)))

@@ -1,4 +1,4 @@
-use Rattle.std.proofs.Common.{◌≡◌, Bool, true, ℕ, false, sym, subst, arith}
+use Rattle.std.proofs.Common.{◌≡◌, Bool, true, ℕ, false, sym, ap, subst, ◌∙◌, arith}
 use Rattle.ostore_client_cache.specs.Entries.{is_in_use}
 use Rattle.ostore_page_service.specs.Told.{Numbers}
 use Rattle.ostore_client_core.specs.declared.release.Ending.TheVariants.{Committed}
@@ -68,3 +68,10 @@ returns-clause-own g c =
 pub returns-in-Ok-commit-clause-answered : goal.returns-in-Ok-commit-clause-answered
 returns-in-Ok-commit-clause-answered g c =
     subst (λ (v : ClientView). (page : ℕ) → is_in_use (entry_of v page) ≡ true → IsReleased g.S.PageClaims.releases false (g.S.PageClaims.tells c.release_used.new.service).mine page) c.draft.ensures.same c.release_used.ensures.answered
+
+pub returns-in-Ok-commit-clause-copies : goal.returns-in-Ok-commit-clause-copies
+returns-in-Ok-commit-clause-copies g c = λ page idle.
+    c.release_used.ensures.copies page (ap (λ (v : ClientView). is_in_use (entry_of v page)) c.draft.ensures.same ∙ idle) ∙ c.in-Ok-commit.ensures.added.kept page
+
+pub returns-clause-copies : goal.returns-clause-copies
+returns-clause-copies g c = λ page idle. c.in-Err.ensures.failed.pages.kept page
