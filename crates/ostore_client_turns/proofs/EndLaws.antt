@@ -1,10 +1,8 @@
 -- What a run gives.
-use Rattle.std.proofs.Common.{◌≡◌, ◌<◌, ◌≤◌, ◌-◌, ◌^◌, ℕ, Bool, true, false, cond, min, List, [], length, map, Option, Result, Ok, Err, refl, sym, ap, subst, ◌∙◌, arith}
+use Rattle.std.proofs.Common.{◌≡◌, ◌<◌, ◌≤◌, ℕ, Bool, true, false, cond, List, [], length, map, Option, Result, Ok, Err, refl, sym, ap, subst, ◌∙◌, arith}
 use Rattle.std.specs.Prelude.{IfOk}
-use Rattle.std.specs.List.{sum_by}
 use Rattle.std.proofs.lemmas.Bool.{lt-ltb}
 use Rattle.std.proofs.lemmas.List.{length-map}
-use Rattle.std.proofs.lemmas.List.Sums.{sum-map}
 use Rattle.std.proofs.lemmas.Option.{slice_get_within}
 use Rattle.ostore_base.specs.Limits.{most_clients}
 use Rattle.ostore_base.specs.declared.page.PageImage.{PageImage}
@@ -25,22 +23,13 @@ use Rattle.ostore_turns.specs.Runs.{IsFirst, IsRunBy}
 use Rattle.ostore_turns.specs.Bounds.{AreBounded}
 use Rattle.ostore_turns.specs.RightResults.{ResultsAreRecords}
 use Rattle.ostore_graph_history.specs.Histories.{AreResultsOf, LawOfCommittedHistories, committed_entry}
-use Rattle.ostore_client_turns.specs.declared.seat.Seat.{Seat}
-use Rattle.ostore_client_turns.specs.Runs.{AreFetches, IsRunOf, IsTailOf, bounds_of, first_moment, script_of}
+use Rattle.ostore_client_turns.specs.Runs.{IsRunOf, IsTailOf, bounds_of, first_moment, script_of}
 use Rattle.ostore_client_turns.specs.inside.AtServer.{IsReadyAt}
-use Rattle.ostore_client_turns.specs.inside.Seats.{fetches_in}
 use Rattle.ostore_client_turns.specs.inside.Stores.{SeatView, recorded}
 
 is_false : (b : Bool) → (b ≡ true → ⊥) → b ≡ false
 is_false true not = absurd (not refl)
 is_false false not = refl
-
-pub fetches_are : {M : Type 0} (job : Job) (items : List (Seat M)) (fetches : ℕ) → length items ≡ length job.clients → fetches ≡ min (sum_by fetches_in items) (2 ^ 64 - 1) → AreFetches job fetches
-fetches_are job items fetches long is = record {
-  each = map fetches_in items;
-  all = length-map items fetches_in ∙ long;
-  together = is ∙ ap (λ (n : ℕ). min n (2 ^ 64 - 1)) (sym (sum-map fetches_in items));
-}
 
 recorded_low : (told : ℕ → Told Entry) (client : ℕ) → client < most_clients → map committed_entry (told client).mine.records ≡ recorded told client
 recorded_low told client low = sym (ap (λ (b : Bool). cond b (map committed_entry (told client).mine.records) []) (lt-ltb client most_clients low))
@@ -48,7 +37,7 @@ recorded_low told client low = sym (ap (λ (b : Bool). cond b (map committed_ent
 module _ (law : LawOfCommittedHistories) (records_law : ResultsAreRecords) (schema : Schema) (job : Job) (first : ℕ) (opened last : List PageImage) (before after : Moment) (ran : TurnsRun) (told : ℕ → Told Entry) where
   pub run_of : length job.clients ≤ most_clients → before ≡ first_moment first → IsRunBy job before after ran → (ran.disk_failed ≡ true → ⊥) → AreBounded (bounds_of (script_of schema job) opened) job.clients ran.results
       → ((client : ℕ) → after.records client ≡ recorded told client) → IsServed graph_meaning (script_of schema job) first opened (λ client. (told client).mine.records) after.commits last
-      → (tail : Tail) → IsTailOf job after.commits tail → IsRunOf schema job first opened last (record { results = ran.results; tail = tail })
+      → (tail : Tail) → IsTailOf after.commits tail → IsRunOf schema job first opened last (record { results = ran.results; tail = tail })
   run_of few begins by sound bounded records served tail tail_of =
       let none : IsFirst (first_moment first) = λ client. (refl, refl) in
       let run_by : IsRunBy job (first_moment first) after (record { results = ran.results; disk_failed = false }) =

@@ -1,5 +1,5 @@
 -- What a run of a job on the pages of a server promises.
-use Rattle.std.specs.Prelude.{◌≡◌, ◌-◌, ◌^◌, ℕ, false, min, sum, List, [], length, map, Some, None}
+use Rattle.std.specs.Prelude.{◌≡◌, ℕ, false, List, [], length, map, Some, None}
 use Rattle.std.specs.List.{AllByRecursion}
 use Rattle.ostore_base.specs.declared.page.PageImage.{PageImage}
 use Rattle.ostore_schema_layout.specs.declared.schema.Schema.{Schema}
@@ -45,16 +45,10 @@ bounds_of script opened = record {
 
 -- ---- what a run gives
 
--- how many claims of all clients were fetched: a number for each client, and their sum up to the type's end
-pub record AreFetches (job : Job) (fetches : ℕ) : Type 0 where
-  pub each : List ℕ
-  pub all : length each ≡ length job.clients
-  pub together : fetches ≡ min (sum each) (2 ^ 64 - 1)
-
--- no call of a disk failed, and the number of the last commit is told, with the fetches
-pub record IsTailOf (job : Job) (commits : ℕ) (tail : Tail) : Type 0 where
+-- No call of a disk failed, and the number of the last commit is told, with a count of fetches. Which count isn't said: it
+-- depends on the frames and on the pages that are retained.
+pub record IsTailOf (commits : ℕ) (tail : Tail) : Type 0 where
   pub fetches : ℕ
-  pub are : AreFetches job fetches
   pub tail_is : tail ≡ record { disk_fault_after = None; commits = commits; fetches = Some fetches }
 
 -- From the opened list at its number to the last one the clients of a job took the turns of its schedule. What their
@@ -67,4 +61,4 @@ pub record IsRunOf (schema : Schema) (job : Job) (first : ℕ) (opened last : Li
   pub history : IsHistoryTo (script_of schema job) first opened (committed_of run.results) last
   pub bounded : AreBounded (bounds_of (script_of schema job) opened) job.clients run.results
   pub number : after.commits ≡ last_number first (committed_of run.results)
-  pub tail : IsTailOf job after.commits run.tail
+  pub tail : IsTailOf after.commits run.tail

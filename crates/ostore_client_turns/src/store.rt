@@ -19,7 +19,7 @@ pub(crate) struct Store<'s, 'v, 'a, D, M: Mapper> {
     pub(crate) server: &'s mut SeqServer<GraphKind, D>,
     pub(crate) schema: &'a Schema,
     pub(crate) job: &'a Job,
-    /// Chooses the frames of all clients.
+    /// Chooses the frames of all clients. It isn't read here: the seats' clients have it.
     pub(crate) mapper: &'a M,
     pub(crate) seats: &'v mut Vec<Seat<'a, M>>,
 }
@@ -53,8 +53,6 @@ impl<'s, 'v, 'a, D: Disk, M: Mapper> Store<'s, 'v, 'a, D, M> {
         ensures sound { IfOk result (λ run. run.disk_failed ≡ true → ⊥) }
         ensures ready { IfOk result (λ _run. IsReadyAt D.faults self.new.server.now
             self.old.schema.now self.old.job.now (seats_in self.new.seats.now.items)) }
-        ensures long { IfOk result (λ _run.
-            length self.new.seats.now.items ≡ length self.old.job.now.clients) }
         ensures same_server { self.new.server.ghost_name ≡ self.old.server.ghost_name }
         ensures same_seats { self.new.seats.ghost_name ≡ self.old.seats.ghost_name }
         ensures first { first_of self.new.server.now ≡ first_of self.old.server.now }

@@ -123,6 +123,19 @@ fn a_cache_and_frames_of_one_page_are_full(rt: HostRuntime) -> Result<(), Fail> 
     Ok(())
 }
 
+/// The first `new` fetches page 0 and the segment's new page. The second one reads page 0 and owns the other, whose copy goes
+/// at the abort. So the third one fetches one page, and finds the database as the first one left it.
+#[test]
+fn an_abort_leaves_no_change_and_retains_what_was_only_read(rt: HostRuntime) -> Result<(), Fail> {
+    let job =
+        b"client a\nbegin\nnew $p Part 1\ncommit\nbegin\nnew $p Part 1\nset $p.id 5\nabort\nbegin\nnew $p Part 1\nget $p.id\ncommit\n";
+    let wanted =
+        b"a.1 commit 1\n  1.1\na.2 abort\na.3 commit 2\n  1.2\n  0\ncommits 2\nfetches 3\n";
+    let text = report_of(rt.alloc(), &Low, job, true);
+    assert!(rt; is_text(text, wanted));
+    Ok(())
+}
+
 #[test]
 fn three_clients_give_one_report_under_all_mappers(rt: HostRuntime) -> Result<(), Fail> {
     let alloc = rt.alloc();

@@ -1,5 +1,4 @@
-use Rattle.std.proofs.Common.{◌≡◌, ◌-◌, ◌^◌, ℕ, min, List, Some, None, refl, ap, sym, subst, ◌∙◌, rules}
-use Rattle.std.specs.List.{sum_by}
+use Rattle.std.proofs.Common.{◌≡◌, ℕ, List, Some, None, refl, ap, sym, subst, ◌∙◌, rules}
 use Rattle.ostore_base.specs.declared.page.PageImage.{PageImage}
 use Rattle.ostore_client_core.specs.Kinds.{graph_meaning}
 use Rattle.ostore_run_report.specs.declared.results.Tail.{Tail}
@@ -8,11 +7,10 @@ use Rattle.ostore_page_service.specs.Holding.{IsEmpty}
 use Rattle.ostore_page_service.specs.History.{IsServed}
 use Rattle.ostore_page_service.specs.Servers.{first_of, journal_of, opened_of, side_of, told_of, Serves}
 use Rattle.ostore_client_turns.specs.declared.run.Run.{Run}
-use Rattle.ostore_client_turns.specs.declared.seat.Seat.{Seat}
 use Rattle.ostore_client_turns.specs.Runs.{IsRunOf, IsTailOf, bounds_of, script_of}
 use Rattle.ostore_client_turns.specs.inside.AtServer.{AreAllFreshAt, moment_at}
-use Rattle.ostore_client_turns.specs.inside.Seats.{fetches_in, seats_in}
-use Rattle.ostore_client_turns.proofs.EndLaws.{fetches_are, run_of}
+use Rattle.ostore_client_turns.specs.inside.Seats.{seats_in}
+use Rattle.ostore_client_turns.proofs.EndLaws.{run_of}
 use Rattle.ostore_client_turns.proofs.StartLaws.{is_first, moment_first, ready_first}
 use Rattle.ostore_client_turns.proofs.run.run_turns.Goals as goal
 
@@ -53,13 +51,9 @@ returns g c =
     subst (λ (n : ℕ). IsServed graph_meaning script n opened (λ n. (told n).mine.records) after.commits server.last) firsts
     (subst (λ (pages : List PageImage). IsServed graph_meaning script (first_of server) pages (λ n. (told n).mine.records) after.commits server.last) openeds served) in
     let tail : Tail = record { disk_fault_after = None; commits = c.number.result; fetches = Some c.fetches_of.result } in
-    let sat : c.deref.result.now ≡ new.seats.now.items = search rules in
-    let fetches = fetches_are c.args.job.now new.seats.now.items c.fetches_of.result c.in_ok-ran.ensures.long
-    (c.fetches_of.ensures ∙ ap (λ (seats : List (Seat g.row.M.Denot)). min (sum_by fetches_in seats) (2 ^ 64 - 1)) sat) in
     let reached : c.number.result ≡ (journal_of server).number = search rules in
-    let tail_is : IsTailOf c.args.job.now after.commits tail = record {
+    let tail_is : IsTailOf after.commits tail = record {
       fetches = c.fetches_of.result;
-      are = fetches;
       tail_is = ap (λ (n : ℕ). (let t : Tail = record { disk_fault_after = None; commits = n; fetches = Some c.fetches_of.result } in t)) reached;
     } in
     let run =
