@@ -24,7 +24,7 @@ use Rattle.ostore_object_ops.specs.Lines.{RunsLine, LacksLine, HasRun}
 use Rattle.ostore_object_ops.specs.Claiming.{SeesLinePages, SeesOneMore, BreaksLine}
 use Rattle.ostore_object_ops.proofs.RunLaws.{first_lines, next_lines, meanings, last_lines, lacks_growth, few_in_view}
 use Rattle.ostore_client_access.specs.Accesses.{access_held, Passes}
-use Rattle.ostore_client_access.specs.Attempts.{HasRunLines, AddsReply, FindsNoPlace, LacksOnEach, CrowdsOnEach, HasMade}
+use Rattle.ostore_client_access.specs.Attempts.{HasRunLines, AddsReply, FindsNoPlace, FoundNoPlace, LacksOnEach, CrowdsOnEach, HasMade}
 use Rattle.ostore_client_access.proofs.CrowdLaws.{idle_sees, few_crowd}
 use Rattle.ostore_client_access.proofs.MadeLaws.{idle_owns, owns_nothing}
 
@@ -94,6 +94,11 @@ module _ (a b : Script → Type 0) (t u : Told Entry) (x y : ClientView) (schema
       let early = one.from base list may in
       subst (λ (s : Schema). LacksLine s txn (replies_of progress) lack list) (sym (kept ∙ same))
       (subst (LacksLine schema txn (replies_of progress) lack) (sym early.2.0) early.2.1)
+
+  pub line_found : (lack : NoSpace) → Becomes before after (Sees (LacksLine schema txn (replies_of progress) lack)) → FoundNoPlace a t x txn (replies_of progress) lack
+  line_found lack one =
+      let early = one.from one.some.0 one.some.1 one.some.2 in
+      record { base = one.some.0; list = early.0; may = early.1; lacks = subst (λ (s : Schema). LacksLine s txn (replies_of progress) lack early.0) (sym same) early.2.1 }
 
   pub line_updates : (lack : NoSpace) → Becomes before after (Sees (LacksLine schema txn (replies_of progress) lack)) → txn.update ≡ true
   line_updates lack one = (let line = (one.from one.some.0 one.some.1 one.some.2).2.1 in line.2.may)

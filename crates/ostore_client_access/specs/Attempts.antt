@@ -42,6 +42,14 @@ abbrev pub FindsNoPlace : (Script → Type 0) → Told Entry → ClientView → 
 FindsNoPlace serves told client txn replies lack =
     (base list : List PageImage) → MayBe serves told client base list → LacksLine client.schema txn replies lack list
 
+-- the line behind these replies finds no place for its object, on one of the lists that the attempt may have made
+pub record FoundNoPlace (serves : Script → Type 0) (told : Told Entry) (client : ClientView) (txn : Txn)
+    (replies : List Reply) (lack : NoSpace) : Type 0 where
+  pub base : List PageImage
+  pub list : List PageImage
+  pub may : MayBe serves told client base list
+  pub lacks : LacksLine client.schema txn replies lack list
+
 -- on each list on which the attempt may have begun, fewer pages were free than the transaction may take
 pub record LacksOnEach (serves : Script → Type 0) (told : Told Entry) (client : ClientView) (txn : Txn) : Type 0 where
   pub runs : Attempts serves told client

@@ -10,7 +10,7 @@ ghost use Rattle.ostore_object_ops.specs.Progresses.{replies_of, bound_in};
 ghost use Rattle.ostore_object_ops.specs.Suits.{IsOfInts, IsBuilt};
 ghost use Rattle.ostore_object_ops.specs.Stops.{Stopped, IfNoSpace};
 ghost use Rattle.ostore_client_access.specs.Accesses.{Passes, Fails};
-ghost use Rattle.ostore_client_access.specs.Attempts.{HasRunLines, AddsReply, FindsNoPlace, LacksOnEach, IfCacheFull, CrowdsOnEach, HasMade};
+ghost use Rattle.ostore_client_access.specs.Attempts.{HasRunLines, AddsReply, FindsNoPlace, FoundNoPlace, LacksOnEach, IfCacheFull, CrowdsOnEach, HasMade};
 
 use crate::access::Access;
 use ostore_address_space::Mapper;
@@ -63,6 +63,9 @@ pub(crate) fn execute_line_on<M: Mapper, S: PageService<GraphKind>>(
     ensures names { access.new.client.ghost_name ≡ access.old.client.ghost_name }
     ensures service { access.new.service.ghost_name ≡ access.old.service.ghost_name }
     ensures client { SameClient access.old.client.now access.new.client.now }
+    ensures found { IfErr result (IfNoSpace (FoundNoPlace (S.serves access.old.service.now)
+        (S.tells access.old.service.now) access.old.client.now txn.now
+        (replies_of progress.old))) }
 {
     let done = run_line(access, schema, txn, progress);
     access.client.pages_differ();
@@ -71,7 +74,7 @@ pub(crate) fn execute_line_on<M: Mapper, S: PageService<GraphKind>>(
 
 /// Executes the next line of a transaction in an attempt whose earlier lines have run, and adds its reply to the
 /// progress. The schema is the client's, and the commands are of those that run. NoSpace comes where the object of an
-/// update's line finds no place, and only where fewer pages were free than the transaction may take. CacheFull comes
+/// update's line finds no place, before the call and behind it, and only where fewer pages were free than the transaction may take. CacheFull comes
 /// only where the cache may have fewer pages than 2, the data pages and those that the transaction may take, together.
 /// Where it stops, the replies stay, and the attempt is to be aborted.
 pub fn execute_line<M: Mapper, S: PageService<GraphKind>>(
@@ -109,6 +112,8 @@ pub fn execute_line<M: Mapper, S: PageService<GraphKind>>(
     ensures place { IfErr result (IfNoSpace (FindsNoPlace (S.serves service.new)
         (S.tells service.new) client.new txn.now (replies_of progress.old))) }
     ensures client { SameClient client.old client.new }
+    ensures found { IfErr result (IfNoSpace (FoundNoPlace (S.serves service.old)
+        (S.tells service.old) client.old txn.now (replies_of progress.old))) }
 {
     let mut access = Access {
         client,

@@ -1,5 +1,5 @@
 use Rattle.ostore_client_access.proofs.CrowdLaws.{stop_crowds}
-use Rattle.ostore_client_access.proofs.LineLaws.{lines_stand, line_ok, line_adds, line_lacks, line_crowds, line_place, line_updates}
+use Rattle.ostore_client_access.proofs.LineLaws.{lines_stand, line_ok, line_adds, line_lacks, line_crowds, line_place, line_found, line_updates}
 use Rattle.ostore_client_access.proofs.MadeLaws.{kind_passed, kind_stopped, client_kept, own_line, space_lacks, space_map, may_change}
 use Rattle.ostore_client_access.proofs.lines.execute_line_on.Goals as goal
 
@@ -42,3 +42,6 @@ returns-clause-place g c = space_map _ _ c.run_line-done.result (line_place (g.S
 
 pub returns-clause-updates : goal.returns-clause-updates
 returns-clause-updates g c = space_map _ _ c.run_line-done.result (line_updates (g.S.PageClaims.serves c.args.access.now.service.now) (g.S.PageClaims.serves c.run_line-done.new.pages.service.now) (g.S.PageClaims.tells c.args.access.now.service.now) (g.S.PageClaims.tells c.run_line-done.new.pages.service.now) c.args.access.now.client.now c.run_line-done.new.pages.client.now c.args.schema.now c.args.txn.now c.args.progress.now c.run_line-done.new.progress c.requires.schema c.requires.lines) c.run_line-done.ensures.space
+
+pub returns-clause-found : goal.returns-clause-found
+returns-clause-found g c = space_map _ _ c.run_line-done.result (line_found (g.S.PageClaims.serves c.args.access.now.service.now) (g.S.PageClaims.serves c.run_line-done.new.pages.service.now) (g.S.PageClaims.tells c.args.access.now.service.now) (g.S.PageClaims.tells c.run_line-done.new.pages.service.now) c.args.access.now.client.now c.run_line-done.new.pages.client.now c.args.schema.now c.args.txn.now c.args.progress.now c.run_line-done.new.progress c.requires.schema c.requires.lines) c.run_line-done.ensures.space
