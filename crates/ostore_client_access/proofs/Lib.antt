@@ -1,6 +1,7 @@
 pub mod CellPointers
 pub mod BridgeLaws
 pub mod StoreSteps
+pub mod FullLaws
 pub mod PassLaws
 pub mod ViewLaws
 pub mod CrowdLaws

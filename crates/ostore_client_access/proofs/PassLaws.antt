@@ -15,15 +15,16 @@ use Rattle.ostore_client_core.specs.declared.fault.AttemptFault.{AttemptFault}
 use Rattle.ostore_client_core.specs.declared.fault.AttemptFault.TheVariants.{Busy, NoSpace, CacheFull, SpaceFull, Commit, OutOfMemory}
 use Rattle.ostore_client_core.specs.Clients.{ClientView, entry_of, with_pages, IsOwn}
 use Rattle.ostore_client_core.specs.Attempts.{Narrows}
-use Rattle.ostore_client_core.specs.Calls.{BringsPage, SameClient, IsAddressOf, IsBusy, Refused}
+use Rattle.ostore_client_core.specs.Calls.{BringsPage, SameClient, OwnsNoMore, IsAddressOf, IsBusy, Refused}
 use Rattle.ostore_client_core.proofs.RecordLaws.{calm_refl}
 use Rattle.ostore_client_access.specs.Accesses.{MeetsAnother, Passes, Fails, Causes}
+use Rattle.ostore_client_access.proofs.FullLaws.{lacks_full}
 use Rattle.ostore_client_access.specs.inside.Passing.{HasPassed, HasFailed}
 use Rattle.ostore_client_access.specs.inside.Puts.{PutsInto}
 
 -- ---- why a page didn't come, and why it isn't owned
 
-pub refused_causes : (fault : AttemptFault) (old new : ClientView) (page : PageNo) (told now : Told Entry) → SameClient old new → Refused fault old new page told now → Causes false fault told now new
+refused_causes : (fault : AttemptFault) (old new : ClientView) (page : PageNo) (told now : Told Entry) → SameClient old new → Refused fault old new page told now → Causes false fault told now new
 refused_causes (Busy busy) old new page told now same h = (h.1.rose, h.1.told, inl (subst (OwnedByAnother told) (sym h.1.page) h.2))
 refused_causes (NoSpace segment need) old new page told now same h = absurd h
 refused_causes (CacheFull used capacity) old new page told now same h = (
@@ -33,9 +34,22 @@ refused_causes (CacheFull used capacity) old new page told now same h = (
   h.4,
   h.5,
 )
-refused_causes (SpaceFull frames) old new page told now same h = (h.1, (old, page, h.0), h.0.count ∙ sym same.frames, h.2)
+refused_causes (SpaceFull frames) old new page told now same h = (h.1, record { old = old; page = page; lacks = h.0; full = lacks_full old new page frames now.mine h.0 }, h.0.count ∙ sym same.frames, h.2)
 refused_causes (Commit fault) old new page told now same h = absurd h
 refused_causes OutOfMemory old new page told now same h = subst (NoBusy told) (sym h.1) (calm_refl told)
+
+-- a page that didn't come into use
+pub enter_fails : {T : Type 0} (a b : Script → Type 0) (t u : Told Entry) (x y : ClientView) (page : PageNo) (r : Result T AttemptFault) → IfErr r (λ fault. Refused fault x y page t u)
+    → IsOwn b u y → SameRecords t u → StillServes a b → SameClient x y → OwnsNoMore x y → IfErr r (λ fault. Fails false fault a b t u x y)
+enter_fails a b t u x y page (Ok value) refused own same served client owned = refused
+enter_fails a b t u x y page (Err fault) refused own same served client owned = record {
+  own = own;
+  same = same;
+  served = served;
+  client = client;
+  owned = λ reads. owned;
+  cause = refused_causes fault x y page t u client refused;
+}
 
 pub busy_causes : (fault : AttemptFault) (told now : Told Entry) (client : ClientView) (page : ℕ) → IsBusy fault told now page → Causes true fault told now client
 busy_causes (Busy busy) told now client page h = (h.0.rose, h.0.told, inr (refl, subst (UsedByAnother told) (sym h.0.page) h.1))

@@ -7,10 +7,10 @@ use Rattle.ostore_base.specs.declared.numbers.PageNo.{PageNo}
 use Rattle.ostore_base.specs.declared.page.PageImage.{PageImage}
 use Rattle.ostore_schema_layout.specs.Cells.{pointers_of}
 use Rattle.ostore_page_tags.specs.PageLists.{with_bytes}
-use Rattle.ostore_address_space.specs.Frames.{KeepsFrames, frame_of}
+use Rattle.ostore_address_space.specs.Frames.{KeepsFrames, frame_of, free_frames}
 use Rattle.ostore_segments.specs.Holdings.{PagesTold, PagesHeld}
 use Rattle.ostore_segments.specs.SchemaCells.{size_told}
-use Rattle.ostore_page_service.specs.Told.{Told, SameRecords, StillServes, NoBusy, OwnedByAnother, UsedByAnother}
+use Rattle.ostore_page_service.specs.Told.{Side, Told, SameRecords, StillServes, NoBusy, OwnedByAnother, UsedByAnother}
 use Rattle.ostore_graph_model.specs.declared.commands.Script.{Script}
 use Rattle.ostore_graph_model.specs.declared.history.Entry.{Entry}
 use Rattle.ostore_client_cache.specs.Entries.{is_owned}
@@ -77,6 +77,13 @@ pub record Passes (updates : Bool) (serves later : Script → Type 0) (told now 
 abbrev pub MeetsAnother : Bool → Told Entry → ℕ → Type 0
 MeetsAnother updates told page = OwnedByAnother told page ⊎ ((updates ≡ true) × UsedByAnother told page)
 
+-- a page that was to come in, or one that its pointers lead to, found no frame: every frame is reserved for a page
+pub record FoundNoFrame (client : ClientView) (frames : ℕ) (mine : Side Entry) : Type 0 where
+  pub old : ClientView
+  pub page : PageNo
+  pub lacks : LacksFrames old client page frames mine
+  pub full : free_frames client.frames.pages ≡ []
+
 -- Why a call failed. Busy was answered by the service, once, for another client is at the page that it names; else no
 -- Busy came. The cache and the frames were full only where they are fewer than the pages of the database.
 abbrev pub Causes : Bool → AttemptFault → Told Entry → Told Entry → ClientView → Type 0
@@ -87,8 +94,7 @@ Causes updates (CacheFull used capacity) told now client =
     NoBusy told now × (used ≡ length (used_pages client.pages)) × (capacity ≡ client.most) × (used ≡ capacity)
     × (capacity < length told.opened)
 Causes updates (SpaceFull frames) told now client =
-    NoBusy told now × ((old : ClientView) × (page : PageNo) × LacksFrames old client page frames now.mine)
-    × (frames ≡ length client.frames.pages) × (frames < length told.opened)
+    NoBusy told now × FoundNoFrame client frames now.mine × (frames ≡ length client.frames.pages) × (frames < length told.opened)
 Causes updates OutOfMemory told now client = NoBusy told now
 Causes updates (NoSpace segment need) told now client = ⊥
 Causes updates (Commit fault) told now client = ⊥
