@@ -1,5 +1,6 @@
 -- The pages that commands bring into view.
-use Rattle.std.proofs.Common.{◌≡◌, ◌+◌, ◌*◌, ℕ, Bool, true, List, [], length, sym, ap, subst, arith, ◌∙◌, inl, inr}
+use Rattle.std.proofs.Common.{◌≡◌, ◌+◌, ◌*◌, ℕ, Bool, true, List, [], length, Some, sym, ap, subst, arith, ◌∙◌, inl, inr}
+use Rattle.std.specs.List.{slice_get}
 use Rattle.std.proofs.lemmas.List.Elements.{All-contains}
 use Rattle.ostore_base.specs.declared.page.PageImage.{PageImage}
 use Rattle.ostore_page_tags.specs.PageLists.{header_at, first_of}
@@ -15,8 +16,9 @@ use Rattle.ostore_segments.proofs.NamingLaws.{kept_made}
 use Rattle.ostore_graph_model.specs.declared.values.Reply.{Reply}
 use Rattle.ostore_graph_model.specs.declared.commands.Command.{Command}
 use Rattle.ostore_graph_model.specs.declared.commands.Command.TheVariants as commands
+use Rattle.ostore_graph_model.specs.declared.commands.Txn.{Txn}
 use Rattle.ostore_object_ops.specs.Means.{Leads, HasMeaning}
-use Rattle.ostore_object_ops.specs.Claiming.{IsObjectPage, IsUsedBy, IsWantedBy, IsDataPage, KeepsDataPages, IsLinePage, IsTriedPage, SeesLinePages, BreaksLine}
+use Rattle.ostore_object_ops.specs.Claiming.{IsObjectPage, IsUsedBy, IsUsedByLine, IsWantedBy, IsWantedByLine, IsDataPage, KeepsDataPages, IsLinePage, IsTriedPage, SeesLinePages, BreaksLine}
 use Rattle.ostore_object_ops.specs.Executes.{Executes}
 use Rattle.ostore_object_ops.proofs.CellPlaces.{cell_on}
 use Rattle.ostore_object_ops.proofs.MemberFacts.{leads_to}
@@ -146,6 +148,36 @@ line_breaks schema update command leads stands off sees = record {
           | inl before ↦ inl (sees begun was.0 was.1 page before)
           | inr wanted ↦ broken_line schema update command leads was.0 page (stands.each begun was.0 was.1) wanted
         ],
+      );
+}
+
+-- the command of a line that was executed
+pub line_brings : {a b : PagesHeld} (txn : Txn) (replies : List Reply) (command : Command) (leads : Leads) → slice_get txn.commands (length replies) ≡ Some command → BringsOnEach a b (IsUsedBy txn.update command leads) → BringsOnEach a b (IsUsedByLine txn replies leads)
+line_brings txn replies command leads next brings = record {
+  each = λ begun list there. record {
+    views = λ page seen. elim ((brings.each begun list there).views page seen) [
+      | inl before ↦ inl before
+      | inr used ↦ inr (command, next, used)
+    ];
+  };
+}
+
+-- and of one that was broken off
+pub line_wants : {a b : PagesHeld} (txn : Txn) (replies : List Reply) (command : Command) (leads : Leads) → slice_get txn.commands (length replies) ≡ Some command → BreaksOff a b (IsWantedBy txn.update command leads) → BreaksOff a b (IsWantedByLine txn replies leads)
+line_wants txn replies command leads next off = record {
+  some = off.some;
+  views = off.views;
+  homes = off.homes;
+  from = λ begun new there.
+      let was = off.from begun new there in (
+        was.0,
+        was.1,
+        record {
+          views = λ page seen. elim (was.2.views page seen) [
+            | inl before ↦ inl before
+            | inr wanted ↦ inr (command, next, wanted)
+          ];
+        },
       );
 }
 

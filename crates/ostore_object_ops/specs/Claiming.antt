@@ -1,20 +1,23 @@
 -- Which pages commands bring into view.
 use Rattle.std.specs.Prelude.{◌≡◌, ◌≢◌, ◌⊎◌, ℕ, ◌+◌, ◌*◌, ◌<◌, Bool, true, List, length, Some}
-use Rattle.std.specs.List.{AllPairs, Contains}
+use Rattle.std.specs.List.{AllPairs, Contains, slice_get}
 use Rattle.ostore_base.specs.declared.page.PageImage.{PageImage}
 use Rattle.ostore_base.specs.declared.page.TheConstants.{PAGE_SIZE}
 use Rattle.ostore_page_tags.specs.declared.layout.TheConstants.{OBJECTS_KIND, FRONT_PAGE, ROOTS_PAGE, FIRST_OPEN_PAGE}
 use Rattle.ostore_page_tags.specs.PageLists.{header_at}
 use Rattle.ostore_page_tags.specs.PageChains.{IsOpen}
 use Rattle.ostore_page_tags.specs.Allocated.{HasFree}
-use Rattle.ostore_segments.specs.Holdings.{PagesHeld, Becomes}
+use Rattle.ostore_segments.specs.Holdings.{PagesHeld, Becomes, BringsOnEach, BreaksOff}
 use Rattle.ostore_segments.specs.Naming.{IsNamedIn, IsFirstFree, IsWantedIn}
+use Rattle.ostore_graph_model.specs.declared.values.Reply.{Reply}
 use Rattle.ostore_graph_model.specs.declared.commands.Command.{Command}
 use Rattle.ostore_graph_model.specs.declared.commands.Command.TheVariants as commands
 use Rattle.ostore_graph_model.specs.declared.commands.Txn.{Txn}
 use Rattle.ostore_graph_model.specs.Graph.{Graph}
 use Rattle.ostore_graph_model.specs.Growth.{growth, update_commands}
+use Rattle.ostore_object_ops.specs.declared.progress.Progress.{Progress}
 use Rattle.ostore_object_ops.specs.Means.{Leads}
+use Rattle.ostore_object_ops.specs.Progresses.{replies_of, leads_by}
 
 -- ---- one command
 
@@ -37,6 +40,26 @@ IsWantedBy update (commands.New to ty segment) leads list page = (update ≡ tru
 IsWantedBy update (commands.Get object member) leads list page = IsObjectPage leads object page
 IsWantedBy update (commands.Set object member value) leads list page = IsObjectPage leads object page
 IsWantedBy update other leads list page = ⊥
+
+-- ---- one line
+
+-- what the command behind these replies uses where it was executed
+abbrev pub IsUsedByLine : Txn → List Reply → Leads → List PageImage → ℕ → Type 0
+IsUsedByLine txn replies leads list page =
+    (command : Command) × (slice_get txn.commands (length replies) ≡ Some command) × IsUsedBy txn.update command leads list page
+
+-- what it may use where it was broken off
+abbrev pub IsWantedByLine : Txn → List Reply → Leads → List PageImage → ℕ → Type 0
+IsWantedByLine txn replies leads list page =
+    (command : Command) × (slice_get txn.commands (length replies) ≡ Some command) × IsWantedBy txn.update command leads list page
+
+-- each page in view behind the line was so before, or is one that its command uses
+abbrev pub BringsUsed : Txn → Progress → PagesHeld → PagesHeld → Type 0
+BringsUsed txn progress before after = BringsOnEach before after (IsUsedByLine txn (replies_of progress) (leads_by before progress))
+
+-- the line was broken off, and each page in view was so before, or is one that its command may have used
+abbrev pub BringsWanted : Txn → Progress → PagesHeld → PagesHeld → Type 0
+BringsWanted txn progress before after = BreaksOff before after (IsWantedByLine txn (replies_of progress) (leads_by before progress))
 
 -- ---- the lines of an attempt
 

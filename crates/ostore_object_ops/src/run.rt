@@ -8,7 +8,7 @@ ghost use Rattle.ostore_object_ops.specs.Progresses.{replies_of, leads_by};
 ghost use Rattle.ostore_object_ops.specs.Means.{HasMeaning};
 ghost use Rattle.ostore_object_ops.specs.Suits.{Suits, MayUpdate, IsBuilt};
 ghost use Rattle.ostore_object_ops.specs.Stops.{IfNoSpace, IfOutOfMemory, Stopped};
-ghost use Rattle.ostore_object_ops.specs.Claiming.{SeesLinePages, BreaksLine, HasFewInView};
+ghost use Rattle.ostore_object_ops.specs.Claiming.{SeesLinePages, BreaksLine, BringsUsed, BringsWanted, HasFewInView};
 ghost use Rattle.ostore_object_ops.specs.Lines.{RunsLine, LacksLine, Transacts, LacksGrowth};
 
 use crate::commands::run_command;
@@ -20,7 +20,8 @@ use ostore_segments::CellPages;
 use std::alloc::Global;
 
 /// Executes the next line of a transaction, whose commands are of those that run, and adds its reply to the
-/// progress. It stops as [`run_command`] does, and the replies then stay.
+/// progress. It stops as [`run_command`] does, and the replies then stay. It brings into view only the pages that
+/// its command uses, and those that the command wanted where a fault that leaves all as it was broke it off.
 pub fn run_line<P: CellPages>(
     pages: &mut P,
     schema: &Schema,
@@ -52,6 +53,10 @@ where
     ensures memory { IfErr result (IfOutOfMemory (Becomes (P.held pages.old) (P.held pages.new)
         (λ old new. IsValid schema.now new))) }
     ensures told { P.told pages.new ≡ P.told pages.old }
+    ensures brings { OnOk result (BringsUsed txn.now progress.old (P.held pages.old)
+        (P.held pages.new)) }
+    ensures wants { IfErr result (λ stop. Stopped stop (λ fault. P.stays fault
+        → BringsWanted txn.now progress.old (P.held pages.old) (P.held pages.new)) ⊤) }
 {
     let commands = txn.commands.items();
     let place = progress.replies.len();
