@@ -1,6 +1,6 @@
 //! The lines of a transaction that an attempt executes on its client's pages, one by one.
 
-ghost use Rattle.std.specs.Prelude.{◌≡◌, ◌<◌, ◌≤◌, ℕ, true, List, None, [], length, IfErr, OnErr, OnOk};
+ghost use Rattle.std.specs.Prelude.{◌≡◌, ◌<◌, ◌≤◌, ℕ, ⊤, true, List, None, [], length, IfErr, OnErr, OnOk};
 ghost use Rattle.std.specs.List.{AllByRecursion};
 ghost use Rattle.ostore_schema_layout.specs.Lawful.{IsLawful};
 ghost use Rattle.ostore_client_core.specs.Clients.{IsIdle, IsOwn};
@@ -9,7 +9,8 @@ ghost use Rattle.ostore_client_core.specs.Calls.{SameClient};
 ghost use Rattle.ostore_object_ops.specs.Progresses.{replies_of, bound_in};
 ghost use Rattle.ostore_object_ops.specs.Suits.{IsOfInts, IsBuilt};
 ghost use Rattle.ostore_object_ops.specs.Stops.{Stopped, IfNoSpace};
-ghost use Rattle.ostore_client_access.specs.Accesses.{Passes, Fails};
+ghost use Rattle.ostore_object_ops.specs.Claiming.{BringsUsed, BringsWanted};
+ghost use Rattle.ostore_client_access.specs.Accesses.{access_held, Passes, Fails, Stays};
 ghost use Rattle.ostore_client_access.specs.Attempts.{HasRunLines, AddsReply, FindsNoPlace, FoundNoPlace, LacksOnEach, IfCacheFull, CrowdsOnEach, HasMade};
 
 use crate::access::Access;
@@ -66,6 +67,17 @@ pub(crate) fn execute_line_on<M: Mapper, S: PageService<GraphKind>>(
     ensures found { IfErr result (IfNoSpace (FoundNoPlace (S.serves access.old.service.now)
         (S.tells access.old.service.now) access.old.client.now txn.now
         (replies_of progress.old))) }
+    ensures brings { OnOk result (BringsUsed txn.now progress.old
+        (access_held (S.serves access.old.service.now) (S.tells access.old.service.now)
+        access.old.client.now)
+        (access_held (S.serves access.new.service.now) (S.tells access.new.service.now)
+        access.new.client.now)) }
+    ensures wants { IfErr result (λ stop. Stopped stop (λ fault. Stays fault
+        → BringsWanted txn.now progress.old
+        (access_held (S.serves access.old.service.now) (S.tells access.old.service.now)
+        access.old.client.now)
+        (access_held (S.serves access.new.service.now) (S.tells access.new.service.now)
+        access.new.client.now)) ⊤) }
 {
     let done = run_line(access, schema, txn, progress);
     access.client.pages_differ();
@@ -76,6 +88,7 @@ pub(crate) fn execute_line_on<M: Mapper, S: PageService<GraphKind>>(
 /// progress. The schema is the client's, and the commands are of those that run. NoSpace comes where the object of an
 /// update's line finds no place, before the call and behind it, and only where fewer pages were free than the transaction may take. CacheFull comes
 /// only where the cache may have fewer pages than 2, the data pages and those that the transaction may take, together.
+/// It brings into use only the pages that its command uses, and those that the command wanted where the cache was full.
 /// Where it stops, the replies stay, and the attempt is to be aborted.
 pub fn execute_line<M: Mapper, S: PageService<GraphKind>>(
     client: &mut Client<'_, M>,
@@ -114,6 +127,13 @@ pub fn execute_line<M: Mapper, S: PageService<GraphKind>>(
     ensures client { SameClient client.old client.new }
     ensures found { IfErr result (IfNoSpace (FoundNoPlace (S.serves service.old)
         (S.tells service.old) client.old txn.now (replies_of progress.old))) }
+    ensures brings { OnOk result (BringsUsed txn.now progress.old
+        (access_held (S.serves service.old) (S.tells service.old) client.old)
+        (access_held (S.serves service.new) (S.tells service.new) client.new)) }
+    ensures wants { IfErr result (λ stop. Stopped stop (λ fault. Stays fault
+        → BringsWanted txn.now progress.old
+        (access_held (S.serves service.old) (S.tells service.old) client.old)
+        (access_held (S.serves service.new) (S.tells service.new) client.new)) ⊤) }
 {
     let mut access = Access {
         client,

@@ -45,3 +45,9 @@ returns-clause-updates g c = space_map _ _ c.run_line-done.result (line_updates 
 
 pub returns-clause-found : goal.returns-clause-found
 returns-clause-found g c = space_map _ _ c.run_line-done.result (line_found (g.S.PageClaims.serves c.args.access.now.service.now) (g.S.PageClaims.serves c.run_line-done.new.pages.service.now) (g.S.PageClaims.tells c.args.access.now.service.now) (g.S.PageClaims.tells c.run_line-done.new.pages.service.now) c.args.access.now.client.now c.run_line-done.new.pages.client.now c.args.schema.now c.args.txn.now c.args.progress.now c.run_line-done.new.progress c.requires.schema c.requires.lines) c.run_line-done.ensures.space
+
+pub returns-clause-brings : goal.returns-clause-brings
+returns-clause-brings g c = c.run_line-done.ensures.brings
+
+pub returns-clause-wants : goal.returns-clause-wants
+returns-clause-wants g c = c.run_line-done.ensures.wants
