@@ -20,8 +20,9 @@ use ostore_segments::CellPages;
 use std::alloc::Global;
 
 /// Executes the next line of a transaction, whose commands are of those that run, and adds its reply to the
-/// progress. It stops as [`run_command`] does, and the replies then stay. It brings into view only the pages that
-/// its command uses, and those that the command wanted where a fault that leaves all as it was broke it off.
+/// progress. It stops as [`run_command`] does, and the replies then stay. A line that was executed brings into view
+/// only the pages that its command uses, and one that was broken off by a fault that leaves all as it was only those
+/// that the command wanted.
 pub fn run_line<P: CellPages>(
     pages: &mut P,
     schema: &Schema,
