@@ -86,10 +86,11 @@ pub(crate) fn execute_line_on<M: Mapper, S: PageService<GraphKind>>(
 
 /// Executes the next line of a transaction in an attempt whose earlier lines have run, and adds its reply to the
 /// progress. The schema is the client's, and the commands are of those that run. NoSpace comes where the object of an
-/// update's line finds no place, before the call and behind it, and only where fewer pages were free than the transaction may take. CacheFull comes
-/// only where the cache may have fewer pages than 2, the data pages and those that the transaction may take, together.
-/// It brings into use only the pages that its command uses, and those that the command wanted where the cache was full.
-/// Where it stops, the replies stay, and the attempt is to be aborted.
+/// update's line finds no place, before the call and behind it, and only where fewer pages were free than the
+/// transaction may take. CacheFull comes only where the cache may have fewer pages than 2, the data pages and those
+/// that the transaction may take, together. A line that was executed brings into use only the pages that its command
+/// uses, and one that a full cache stopped only those that the command wanted. Where it stops, the replies stay, and
+/// the attempt is to be aborted.
 pub fn execute_line<M: Mapper, S: PageService<GraphKind>>(
     client: &mut Client<'_, M>,
     service: &mut S,
