@@ -1,6 +1,7 @@
 -- Where an attempt at a transaction is: before its first line, or behind one of its lines.
-use Rattle.std.specs.Prelude.{◌≡◌, ◌+◌, ◌<◌, ℕ, [], length, Option, Some, None, All}
+use Rattle.std.specs.Prelude.{◌≡◌, ◌+◌, ◌<◌, ℕ, List, [], length, Option, Some, None, All}
 use Rattle.ostore_page_service.specs.Told.{Told}
+use Rattle.ostore_graph_model.specs.declared.values.Reply.{Reply}
 use Rattle.ostore_graph_model.specs.declared.commands.Txn.{Txn}
 use Rattle.ostore_graph_model.specs.declared.commands.Script.{Script}
 use Rattle.ostore_graph_model.specs.declared.history.Entry.{Entry}
@@ -35,6 +36,11 @@ line_in (Some progress) = length (replies_of progress) + 1
 
 abbrev pub line_at : Attempt → ℕ
 line_at attempt = line_in attempt.progress
+
+-- the replies so far
+abbrev pub replies_in : Option Progress → List Reply
+replies_in None = []
+replies_in (Some progress) = replies_of progress
 
 -- ---- how far it has come
 

@@ -1,5 +1,5 @@
 -- What a line of a transaction gives.
-use Rattle.std.specs.Prelude.{◌≡◌, ◌+◌, ◌<◌, ℕ, true, false, List, Some}
+use Rattle.std.specs.Prelude.{◌≡◌, ◌+◌, ◌<◌, ℕ, true, false, List, [], Option, Some, None}
 use Rattle.ostore_page_service.specs.Told.{Told, SameRecords, StillServes, NoBusy}
 use Rattle.ostore_graph_model.specs.declared.values.Reply.{Reply}
 use Rattle.ostore_graph_model.specs.declared.commands.Txn.{Txn}
@@ -11,11 +11,13 @@ use Rattle.ostore_client_core.specs.declared.release.Ending.TheVariants as endin
 use Rattle.ostore_client_core.specs.Clients.{ClientView}
 use Rattle.ostore_client_core.specs.Calls.{Releases}
 use Rattle.ostore_client_core.specs.Commits.{Finishes}
-use Rattle.ostore_client_access.specs.Attempts.{HasMade}
+use Rattle.ostore_client_access.specs.Attempts.{AddsReply, HasMade}
+use Rattle.ostore_object_ops.specs.declared.progress.Progress.{Progress}
+use Rattle.ostore_object_ops.specs.Progresses.{replies_of}
 use Rattle.ostore_transactions.specs.declared.attempt.Attempt.{Attempt}
 use Rattle.ostore_transactions.specs.declared.line.Line.{Line}
 use Rattle.ostore_transactions.specs.declared.line.Line.TheVariants.{Going, Committed, Aborted}
-use Rattle.ostore_transactions.specs.Attempts.{last_line, line_at, IsOver}
+use Rattle.ostore_transactions.specs.Attempts.{last_line, line_at, replies_in, IsOver}
 use Rattle.ostore_transactions.specs.Causes.{SameHistory, IsCause, ComesAt}
 
 -- the entry of the client's transaction with these replies
@@ -32,6 +34,21 @@ abbrev pub ServesNamed : (Script → Type 0) → (Script → Type 0) → Told En
 ServesNamed serves later told client txn ordinal =
     (script : Script) → serves script → script.schema ≡ client.schema
     → txn_at script told.client ordinal ≡ Some txn → later script
+
+-- ---- the replies
+
+-- a line that goes on: behind the first one there are no replies, and a command adds its own to those before it
+abbrev pub AddsOwnReply : Option Progress → List Reply → Type 0
+AddsOwnReply None replies = replies ≡ []
+AddsOwnReply (Some before) replies = AddsReply (replies_of before) replies
+
+-- from before a line to after it: the replies of the attempt go on so, and those that are committed are the attempt's
+abbrev pub RepliesGoOn : (before after : Option Progress) → Line → Type 0
+RepliesGoOn before after Going = AddsOwnReply before (replies_in after)
+RepliesGoOn before after (Committed number replies) = replies ≡ replies_in before
+RepliesGoOn before after Aborted = Unit {0}
+
+-- ---- what else it gives
 
 -- From before a line of this number to after it: the scripts that are served, what the service tells, and the client; and
 -- where the attempt is then.

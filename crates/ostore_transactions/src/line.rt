@@ -7,7 +7,7 @@ ghost use Rattle.ostore_client_core.specs.Clients.{IsOwn};
 ghost use Rattle.ostore_client_core.specs.Calls.{SameClient};
 ghost use Rattle.ostore_object_ops.specs.Suits.{IsOfInts, IsBuilt};
 ghost use Rattle.ostore_transactions.specs.Attempts.{line_at, HasTxn, IsAt};
-ghost use Rattle.ostore_transactions.specs.Lines.{IsLine, HasFailed};
+ghost use Rattle.ostore_transactions.specs.Lines.{RepliesGoOn, IsLine, HasFailed};
 
 use crate::attempt::Attempt;
 use crate::steps::{begin_attempt, end_attempt, run_next};
@@ -32,7 +32,8 @@ pub enum Line {
 /// Executes the next line of a client's transaction: the line that begins it, each of its commands, and the line that ends
 /// it, which commits, or aborts where the script says so. The transaction is that which a script that is served has for the
 /// client and the ordinal, above those of the client's records; its commands are of those that run, and the schema is the
-/// client's. Going comes exactly where the line wasn't the last one. After every other answer no page is in use, and the
+/// client's. Going comes exactly where the line wasn't the last one; the attempt has then the replies that it had, and that of
+/// the line where this was a command's. Those that are committed are the attempt's. After every other answer no page is in use, and the
 /// attempt is before its first line. A fault has its cause: Busy, where another client owns the page, or uses one that is to
 /// be owned; NoSpace, where fewer pages are free than the transaction may take; CacheFull and SpaceFull, where the cache or the
 /// frames are fewer than the pages of the database, and CacheFull only where the cache has, besides, fewer than 2 pages, the data
@@ -59,6 +60,7 @@ pub fn run_line<M: Mapper, S: PageService<GraphKind>>(
     ensures line { IfOk result (IsLine (S.serves service.old) (S.serves service.new)
         (S.tells service.old) (S.tells service.new) client.old client.new txn.now
         (line_at attempt.old) attempt.new ordinal) }
+    ensures replies { IfOk result (RepliesGoOn attempt.old.progress attempt.new.progress) }
     ensures failed { IfErr result (HasFailed (S.serves service.old) (S.serves service.new)
         (S.tells service.old) (S.tells service.new) client.old client.new txn.now
         (line_at attempt.old) attempt.new) }

@@ -1,14 +1,14 @@
 //! The kinds of line of a transaction.
 
-ghost use Rattle.std.specs.Prelude.{◌≡◌, ◌+◌, ◌<◌, ◌≤◌, true, false, length, None, IfOk, IfErr, OnOk, OnErr};
+ghost use Rattle.std.specs.Prelude.{◌≡◌, ◌+◌, ◌<◌, ◌≤◌, true, false, length, Some, None, IfOk, IfErr, OnOk, OnErr};
 ghost use Rattle.std.specs.List.{AllByRecursion};
 ghost use Rattle.ostore_schema_layout.specs.Lawful.{IsLawful};
 ghost use Rattle.ostore_client_core.specs.Clients.{IsIdle, IsOwn};
 ghost use Rattle.ostore_client_core.specs.Calls.{SameClient};
 ghost use Rattle.ostore_object_ops.specs.Progresses.{replies_of};
 ghost use Rattle.ostore_object_ops.specs.Suits.{IsOfInts, IsBuilt};
-ghost use Rattle.ostore_transactions.specs.Attempts.{last_line, HasTxn, IsAlong, IsAt};
-ghost use Rattle.ostore_transactions.specs.Lines.{IsGoing, IsLine, IsAborted, HasFailed};
+ghost use Rattle.ostore_transactions.specs.Attempts.{last_line, replies_in, HasTxn, IsAlong, IsAt};
+ghost use Rattle.ostore_transactions.specs.Lines.{AddsOwnReply, RepliesGoOn, IsGoing, IsLine, IsAborted, HasFailed};
 ghost use Rattle.ostore_transactions.specs.inside.Stopping.{fault_by};
 
 use crate::attempt::Attempt;
@@ -37,6 +37,7 @@ pub(crate) fn begin_attempt<M: Mapper, S: PageService<GraphKind>>(
     requires writer { txn.now.update ≡ true → (S.tells service.old).may_write ≡ true }
     ensures going { OnOk result (IsGoing (S.serves service.old) (S.serves service.new)
         (S.tells service.old) (S.tells service.new) client.old client.new txn.now 0 attempt.new) }
+    ensures replies { OnOk result (AddsOwnReply None (replies_in attempt.new.progress)) }
     ensures failed { IfErr result (HasFailed (S.serves service.old) (S.serves service.new)
         (S.tells service.old) (S.tells service.new) client.old client.new txn.now 0 attempt.new) }
     ensures own { IsOwn (S.serves service.new) (S.tells service.new) client.new }
@@ -89,6 +90,8 @@ pub(crate) fn run_next<M: Mapper, S: PageService<GraphKind>>(
     ensures going { OnOk result (IsGoing (S.serves service.old) (S.serves service.new)
         (S.tells service.old) (S.tells service.new) client.old client.new txn.now
         (length (replies_of progress) + 1) attempt.new) }
+    ensures replies { OnOk result (AddsOwnReply (Some progress)
+        (replies_in attempt.new.progress)) }
     ensures failed { IfErr result (HasFailed (S.serves service.old) (S.serves service.new)
         (S.tells service.old) (S.tells service.new) client.old client.new txn.now
         (length (replies_of progress) + 1) attempt.new) }
@@ -151,6 +154,7 @@ fn commit_attempt<M: Mapper, S: PageService<GraphKind>>(
     ensures line { IfOk result (IsLine (S.serves service.old) (S.serves service.new)
         (S.tells service.old) (S.tells service.new) client.old client.new txn.now
         (last_line txn.now) attempt.now ordinal) }
+    ensures replies { IfOk result (RepliesGoOn (Some progress) attempt.now.progress) }
     ensures failed { IfErr result (HasFailed (S.serves service.old) (S.serves service.new)
         (S.tells service.old) (S.tells service.new) client.old client.new txn.now
         (last_line txn.now) attempt.now) }
@@ -202,6 +206,7 @@ pub(crate) fn end_attempt<M: Mapper, S: PageService<GraphKind>>(
     ensures line { IfOk result (IsLine (S.serves service.old) (S.serves service.new)
         (S.tells service.old) (S.tells service.new) client.old client.new txn.now
         (last_line txn.now) attempt.now ordinal) }
+    ensures replies { IfOk result (RepliesGoOn (Some progress) attempt.now.progress) }
     ensures failed { IfErr result (HasFailed (S.serves service.old) (S.serves service.new)
         (S.tells service.old) (S.tells service.new) client.old client.new txn.now
         (last_line txn.now) attempt.now) }
