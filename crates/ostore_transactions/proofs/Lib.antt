@@ -4,3 +4,4 @@ pub mod CommitLaws
 pub mod OtherLaws
 pub mod WholeLaws
 pub mod TestLaws
+pub mod RetainLaws

@@ -2,5 +2,6 @@
 pub mod Attempts
 pub mod Causes
 pub mod Lines
+pub mod Retained
 pub mod Ends
 pub mod inside

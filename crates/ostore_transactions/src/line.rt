@@ -8,6 +8,7 @@ ghost use Rattle.ostore_client_core.specs.Calls.{SameClient};
 ghost use Rattle.ostore_object_ops.specs.Suits.{IsOfInts, IsBuilt};
 ghost use Rattle.ostore_transactions.specs.Attempts.{line_at, HasTxn, IsAt};
 ghost use Rattle.ostore_transactions.specs.Lines.{RepliesGoOn, IsLine, HasFailed};
+ghost use Rattle.ostore_transactions.specs.Retained.{RetainsBy, WasAborted};
 
 use crate::attempt::Attempt;
 use crate::steps::{begin_attempt, end_attempt, run_next};
@@ -32,12 +33,14 @@ pub enum Line {
 /// Executes the next line of a client's transaction: the line that begins it, each of its commands, and the line that ends
 /// it, which commits, or aborts where the script says so. The transaction is that which a script that is served has for the
 /// client and the ordinal, above those of the client's records; its commands are of those that run, and the schema is the
-/// client's. Going comes exactly where the line wasn't the last one; the attempt has then the replies that it had, and that of
-/// the line where this was a command's. Those that are committed are the attempt's. After every other answer no page is in use, and the
-/// attempt is before its first line. A fault has its cause: Busy, where another client owns the page, or uses one that is to
-/// be owned; NoSpace, where fewer pages are free than the transaction may take; CacheFull and SpaceFull, where the cache or the
-/// frames are fewer than the pages of the database, and CacheFull only where the cache has, besides, fewer than 2 pages, the data
-/// pages and those that the transaction may take together; Commit, where the commit of an update failed; and want of memory.
+/// client's. Going comes exactly where the line wasn't the last one; the attempt has then the replies that it had, and that
+/// of the line where this was a command's. Those that are committed are the attempt's. After every other answer no page is
+/// in use, and the attempt is before its first line; the copies of pages that were in use are kept exactly where the
+/// service allows it, but for those that an aborted attempt owned. A fault has its cause: Busy, where another client owns
+/// the page, or uses one that is to be owned; NoSpace, where fewer pages are free than the transaction may take; CacheFull
+/// and SpaceFull, where the cache or the frames are fewer than the pages of the database, and CacheFull only where the
+/// cache has, besides, fewer than 2 pages, the data pages and those that the transaction may take together; Commit, where
+/// the commit of an update failed; and want of memory.
 pub fn run_line<M: Mapper, S: PageService<GraphKind>>(
     alloc: Global,
     attempt: &mut Attempt,
@@ -64,6 +67,10 @@ pub fn run_line<M: Mapper, S: PageService<GraphKind>>(
     ensures failed { IfErr result (HasFailed (S.serves service.old) (S.serves service.new)
         (S.tells service.old) (S.tells service.new) client.old client.new txn.now
         (line_at attempt.old) attempt.new) }
+    ensures retained { IfOk result (RetainsBy S.releases (S.tells service.old)
+        (S.tells service.new) client.old) }
+    ensures aborted { IfErr result (WasAborted S.releases (S.tells service.old)
+        (S.tells service.new) client.old client.new) }
     ensures own { IsOwn (S.serves service.new) (S.tells service.new) client.new }
     ensures at { IsAt (S.serves service.new) (S.tells service.new) client.new txn.now
         attempt.new }

@@ -3,12 +3,14 @@
 ghost use Rattle.std.specs.Prelude.{◌≡◌, ◌+◌, ◌<◌, ◌≤◌, true, false, length, Some, None, IfOk, IfErr, OnOk, OnErr};
 ghost use Rattle.std.specs.List.{AllByRecursion};
 ghost use Rattle.ostore_schema_layout.specs.Lawful.{IsLawful};
+ghost use Rattle.ostore_client_core.specs.declared.release.Ending.TheVariants.{Aborted};
 ghost use Rattle.ostore_client_core.specs.Clients.{IsIdle, IsOwn};
 ghost use Rattle.ostore_client_core.specs.Calls.{SameClient};
 ghost use Rattle.ostore_object_ops.specs.Progresses.{replies_of};
 ghost use Rattle.ostore_object_ops.specs.Suits.{IsOfInts, IsBuilt};
 ghost use Rattle.ostore_transactions.specs.Attempts.{last_line, replies_in, HasTxn, IsAlong, IsAt};
 ghost use Rattle.ostore_transactions.specs.Lines.{AddsOwnReply, RepliesGoOn, IsGoing, IsLine, IsAborted, HasFailed};
+ghost use Rattle.ostore_transactions.specs.Retained.{Retains, RetainsBy, WasAborted};
 ghost use Rattle.ostore_transactions.specs.inside.Stopping.{fault_by};
 
 use crate::attempt::Attempt;
@@ -40,6 +42,8 @@ pub(crate) fn begin_attempt<M: Mapper, S: PageService<GraphKind>>(
     ensures replies { OnOk result (AddsOwnReply None (replies_in attempt.new.progress)) }
     ensures failed { IfErr result (HasFailed (S.serves service.old) (S.serves service.new)
         (S.tells service.old) (S.tells service.new) client.old client.new txn.now 0 attempt.new) }
+    ensures aborted { IfErr result (WasAborted S.releases (S.tells service.old)
+        (S.tells service.new) client.old client.new) }
     ensures own { IsOwn (S.serves service.new) (S.tells service.new) client.new }
     ensures at { IsAt (S.serves service.new) (S.tells service.new) client.new txn.now
         attempt.new }
@@ -95,6 +99,8 @@ pub(crate) fn run_next<M: Mapper, S: PageService<GraphKind>>(
     ensures failed { IfErr result (HasFailed (S.serves service.old) (S.serves service.new)
         (S.tells service.old) (S.tells service.new) client.old client.new txn.now
         (length (replies_of progress) + 1) attempt.new) }
+    ensures aborted { IfErr result (WasAborted S.releases (S.tells service.old)
+        (S.tells service.new) client.old client.new) }
     ensures own { IsOwn (S.serves service.new) (S.tells service.new) client.new }
     ensures at { IsAt (S.serves service.new) (S.tells service.new) client.new txn.now
         attempt.new }
@@ -126,6 +132,8 @@ fn abort_attempt<M: Mapper, S: PageService<GraphKind>>(
     ensures aborted { IsAborted (S.serves service.old) (S.serves service.new)
         (S.tells service.old) (S.tells service.new) client.old client.new txn.now
         (last_line txn.now) attempt.now }
+    ensures retained { Retains S.releases (S.tells service.old) (S.tells service.new) client.old
+        Aborted }
     ensures own { IsOwn (S.serves service.new) (S.tells service.new) client.new }
     ensures client { SameClient client.old client.new }
 {
@@ -158,6 +166,10 @@ fn commit_attempt<M: Mapper, S: PageService<GraphKind>>(
     ensures failed { IfErr result (HasFailed (S.serves service.old) (S.serves service.new)
         (S.tells service.old) (S.tells service.new) client.old client.new txn.now
         (last_line txn.now) attempt.now) }
+    ensures retained { IfOk result (RetainsBy S.releases (S.tells service.old)
+        (S.tells service.new) client.old) }
+    ensures aborted { IfErr result (WasAborted S.releases (S.tells service.old)
+        (S.tells service.new) client.old client.new) }
     ensures own { IsOwn (S.serves service.new) (S.tells service.new) client.new }
     ensures client { SameClient client.old client.new }
 {
@@ -210,6 +222,10 @@ pub(crate) fn end_attempt<M: Mapper, S: PageService<GraphKind>>(
     ensures failed { IfErr result (HasFailed (S.serves service.old) (S.serves service.new)
         (S.tells service.old) (S.tells service.new) client.old client.new txn.now
         (last_line txn.now) attempt.now) }
+    ensures retained { IfOk result (RetainsBy S.releases (S.tells service.old)
+        (S.tells service.new) client.old) }
+    ensures aborted { IfErr result (WasAborted S.releases (S.tells service.old)
+        (S.tells service.new) client.old client.new) }
     ensures own { IsOwn (S.serves service.new) (S.tells service.new) client.new }
     ensures client { SameClient client.old client.new }
 {

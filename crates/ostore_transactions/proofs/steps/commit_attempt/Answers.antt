@@ -1,5 +1,6 @@
 use Rattle.std.proofs.Common.{refl}
 use Rattle.ostore_transactions.proofs.CommitLaws.{committed, commit_failed}
+use Rattle.ostore_transactions.proofs.RetainLaws.{commit_met}
 use Rattle.ostore_transactions.proofs.steps.commit_attempt.Goals as goal
 
 pub returns-in-Ok-finish-clause-line : goal.returns-in-Ok-finish-clause-line
@@ -13,3 +14,16 @@ returns-in-Err-finish-clause-failed g c = commit_failed (g.S.PageClaims.serves c
     (g.S.PageClaims.tells c.finish.new.service) (g.S.PageClaims.tells c.abort-in-Err-finish.new.service) c.args.client.now c.abort-in-Err-finish.new.self c.args.txn.now c.args.attempt.now
     (record { client = c.client.result; ordinal = c.args.ordinal; update = c.args.txn.now.update; replies = c.in-Ok.copy }) c.in-Err-finish.fault c.requires.first c.requires.kept refl c.in-Err-finish.ensures.failed c.in-Err-finish.ensures.still
     c.abort-in-Err-finish.ensures.idle c.abort-in-Err-finish.ensures.same c.abort-in-Err-finish.ensures.served c.abort-in-Err-finish.ensures.calm
+
+pub returns-in-Err-finish-clause-aborted : goal.returns-in-Err-finish-clause-aborted
+returns-in-Err-finish-clause-aborted g c =
+    let failed = c.in-Err-finish.ensures in
+    let aborted = c.abort-in-Err-finish.ensures in
+    record {
+      met = c.finish.new.self;
+      same = failed.same_client;
+      is = commit_met (g.S.PageClaims.tells c.args.service.now) (g.S.PageClaims.tells c.finish.new.service) (g.S.PageClaims.tells c.abort-in-Err-finish.new.service) c.args.client.now c.finish.new.self
+          (record { client = c.client.result; ordinal = c.args.ordinal; update = c.args.txn.now.update; replies = c.in-Ok.copy }) c.in-Err-finish.fault failed.failed failed.client failed.copies aborted.copies;
+      released = aborted.released;
+      answered = aborted.answered;
+    }
