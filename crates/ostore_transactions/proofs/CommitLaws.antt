@@ -75,6 +75,7 @@ commit_failed a b c t u v x z txn attempt entry (Commit fault) none kept kind re
       };
       served = λ script serving. served script (still script serving);
       over = record { idle = idle; first = none };
+      place = tt;
     }
 commit_failed a b c t u v x z txn attempt entry OutOfMemory none kept kind refused still idle same served calm =
     let both = subst (λ (w : Told Entry). SameRecords w v) refused same in
@@ -84,6 +85,7 @@ commit_failed a b c t u v x z txn attempt entry OutOfMemory none kept kind refus
       same = same_history t v both;
       served = λ script serving. served script (still script serving);
       over = record { idle = idle; first = none };
+      place = tt;
     }
 commit_failed a b c t u v x z txn attempt entry (Busy busy) none kept kind refused still idle same served calm = absurd refused
 commit_failed a b c t u v x z txn attempt entry (NoSpace segment need) none kept kind refused still idle same served calm = absurd refused

@@ -1,5 +1,5 @@
 -- A line that failed, and the attempt that was aborted then.
-use Rattle.std.proofs.Common.{◌≡◌, ℕ, List, true, None, refl, sym, subst, ◌∙◌}
+use Rattle.std.proofs.Common.{◌≡◌, ◌+◌, ℕ, List, length, true, None, refl, sym, subst, ◌∙◌}
 use Rattle.ostore_base.specs.Faults.{Rose}
 use Rattle.ostore_base.specs.declared.page.PageImage.{PageImage}
 use Rattle.ostore_schema_layout.specs.declared.schema.Schema.{Schema}
@@ -23,10 +23,10 @@ use Rattle.ostore_object_ops.specs.declared.stop.Stop.TheVariants as stops
 use Rattle.ostore_object_ops.specs.Lines.{LacksLine}
 use Rattle.ostore_object_ops.specs.Stops.{Stopped, IfNoSpace}
 use Rattle.ostore_client_access.specs.Accesses.{Causes, Passes, Fails}
-use Rattle.ostore_client_access.specs.Attempts.{FindsNoPlace, LacksOnEach, IfFull, IfCacheFull, CrowdsOnEach}
+use Rattle.ostore_client_access.specs.Attempts.{FindsNoPlace, FoundNoPlace, LacksOnEach, IfFull, IfCacheFull, CrowdsOnEach}
 use Rattle.ostore_transactions.specs.declared.attempt.Attempt.{Attempt}
 use Rattle.ostore_transactions.specs.Attempts.{IsOver}
-use Rattle.ostore_transactions.specs.Causes.{IsCommandLine, ComesAt, IsCause, LacksPages, CrowdsPages, FindsNoPlace as LacksPlace, NoFaults, SameHistory}
+use Rattle.ostore_transactions.specs.Causes.{IsCommandLine, ComesAt, IsCause, LacksPages, CrowdsPages, FindsNoPlace as MayLackPlace, LacksPlace, IfNoSpace as IfLacking, NoFaults, SameHistory}
 use Rattle.ostore_transactions.specs.Lines.{HasFailed}
 use Rattle.ostore_transactions.specs.inside.Stopping.{fault_by}
 
@@ -122,11 +122,20 @@ fault_line t u y txn line (Commit fault) at why = absurd why
 fault_line t u y txn line OutOfMemory at why = tt
 
 no_place : (b : Script → Type 0) (u : Told Entry) (x y : ClientView) (txn : Txn) (replies : List Reply) (lack : Lack)
-    → y.schema ≡ x.schema → Attempts b u y → FindsNoPlace b u y txn replies lack → LacksPlace x.schema txn lack
+    → y.schema ≡ x.schema → Attempts b u y → FindsNoPlace b u y txn replies lack → MayLackPlace x.schema txn lack
 no_place b u x y txn replies lack schema runs place =
     let base : List PageImage = runs.some.0 in
     let line = place base (seen_list y base) (record { runs = runs; began = runs.some.1; made = refl }) in
     (replies, seen_list y base, subst (λ (s : Schema). LacksLine s txn replies lack (seen_list y base)) schema line)
+
+-- a fault of the client's isn't want of space
+no_lack : (P : Lack → Type 0) (t u : Told Entry) (y : ClientView) (txn : Txn) (fault : AttemptFault) → Causes txn.update fault t u y → IfLacking P fault
+no_lack P t u y txn (Busy busy) why = tt
+no_lack P t u y txn (NoSpace segment need) why = absurd why
+no_lack P t u y txn (CacheFull used capacity) why = tt
+no_lack P t u y txn (SpaceFull frames) why = tt
+no_lack P t u y txn (Commit fault) why = tt
+no_lack P t u y txn OutOfMemory why = tt
 
 over : (z : ClientView) (attempt : Attempt) → attempt.progress ≡ None → IsIdle z → IsOver z attempt
 over z attempt none idle = record { idle = idle; first = none }
@@ -135,9 +144,10 @@ pub line_failed : (a b c : Script → Type 0) (t u v : Told Entry) (x y z : Clie
     → attempt.progress ≡ None → IsCommandLine txn line
     → Stopped stop (λ fault. Fails txn.update fault a b t u x y) (Passes txn.update a b t u x y) → IfNoSpace (λ lack. LacksOnEach b u y txn) stop → IfCacheFull (CrowdsOnEach b u y txn) stop
     → IfNoSpace (λ lack. txn.update ≡ true) stop → IfNoSpace (FindsNoPlace b u y txn replies) stop
+    → IfNoSpace (FoundNoPlace a t x txn replies) stop → line ≡ length replies + 1
     → HoldsReached graph_meaning b u → IsIdle z → SameRecords u v → StillServes b c → NoBusy u v
     → HasFailed a c t v x z txn line attempt (fault_by stop)
-line_failed a b c t u v x y z txn replies line attempt (stops.Fault fault) none at stopped space crowds updates place reached idle same served calm =
+line_failed a b c t u v x y z txn replies line attempt (stops.Fault fault) none at stopped space crowds updates place found next reached idle same served calm =
     let both = records_then t u v stopped.same same in
     record {
       cause = fault_cause a b t u v x y txn fault stopped.same same stopped.served calm stopped.client reached stopped.cause crowds;
@@ -145,8 +155,9 @@ line_failed a b c t u v x y z txn replies line attempt (stops.Fault fault) none 
       same = same_history t v both;
       served = λ script serving. served script (stopped.served script serving);
       over = over z attempt none idle;
+      place = no_lack (LacksPlace a t x txn line) t u y txn fault stopped.cause;
     }
-line_failed a b c t u v x y z txn replies line attempt (stops.NoSpace lack) none at stopped space crowds updates place reached idle same served calm =
+line_failed a b c t u v x y z txn replies line attempt (stops.NoSpace lack) none at stopped space crowds updates place found next reached idle same served calm =
     let both = records_then t u v stopped.same same in
     record {
       cause = (
@@ -160,8 +171,9 @@ line_failed a b c t u v x y z txn replies line attempt (stops.NoSpace lack) none
       same = same_history t v both;
       served = λ script serving. served script (stopped.served script serving);
       over = over z attempt none idle;
+      place = record { replies = replies; next = next; found = found };
     }
-line_failed a b c t u v x y z txn replies line attempt stops.OutOfMemory none at stopped space crowds updates place reached idle same served calm =
+line_failed a b c t u v x y z txn replies line attempt stops.OutOfMemory none at stopped space crowds updates place found next reached idle same served calm =
     let both = records_then t u v stopped.same same in
     record {
       cause = (calm_then t u v stopped.calm calm, no_faults t v both);
@@ -169,4 +181,5 @@ line_failed a b c t u v x y z txn replies line attempt stops.OutOfMemory none at
       same = same_history t v both;
       served = λ script serving. served script (stopped.served script serving);
       over = over z attempt none idle;
+      place = tt;
     }

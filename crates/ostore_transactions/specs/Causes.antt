@@ -1,5 +1,5 @@
 -- Why an attempt fails.
-use Rattle.std.specs.Prelude.{◌≡◌, ◌<◌, ◌≤◌, ◌++◌, ◌∷◌, [], ℕ, true, false, List, length}
+use Rattle.std.specs.Prelude.{◌≡◌, ◌+◌, ◌<◌, ◌≤◌, ◌++◌, ◌∷◌, [], ℕ, true, false, List, length}
 use Rattle.std.specs.Option.{option_map}
 use Rattle.ostore_base.specs.Faults.{Rose}
 use Rattle.ostore_base.specs.declared.page.PageImage.{PageImage}
@@ -18,6 +18,7 @@ use Rattle.ostore_client_core.specs.declared.fault.AttemptFault.TheVariants.{Bus
 use Rattle.ostore_client_core.specs.Kinds.{graph_meaning}
 use Rattle.ostore_client_core.specs.Clients.{ClientView}
 use Rattle.ostore_client_access.specs.Accesses.{MeetsAnother}
+use Rattle.ostore_client_access.specs.Attempts.{FoundNoPlace}
 use Rattle.ostore_object_ops.specs.Lines.{LacksLine, LacksGrowth}
 use Rattle.ostore_object_ops.specs.Claiming.{IsBelowGrowth}
 use Rattle.ostore_transactions.specs.Attempts.{last_line}
@@ -62,6 +63,23 @@ pub record CrowdsPages (script : Script) (told : Told Entry) (txn : Txn) (capaci
 -- a command of the transaction makes an object that finds no place on some list of pages
 abbrev pub FindsNoPlace : Schema → Txn → Lack → Type 0
 FindsNoPlace schema txn lack = (replies : List Reply) × (list : List PageImage) × LacksLine schema txn replies lack list
+
+-- The command's line of this number finds no place for its object on one of the lists of pages that the attempt may have made
+-- before it. The line behind so many replies has the number one above theirs.
+pub record LacksPlace (serves : Script → Type 0) (told : Told Entry) (client : ClientView) (txn : Txn) (line : ℕ)
+    (lack : Lack) : Type 0 where
+  pub replies : List Reply
+  pub next : line ≡ length replies + 1
+  pub found : FoundNoPlace serves told client txn replies lack
+
+-- where a fault is want of space, what is wanted
+abbrev pub IfNoSpace : (Lack → Type 0) → AttemptFault → Type 0
+IfNoSpace P (NoSpace segment need) = P (record { segment = segment; need = need })
+IfNoSpace P (Busy busy) = Unit {0}
+IfNoSpace P (CacheFull used capacity) = Unit {0}
+IfNoSpace P (SpaceFull frames) = Unit {0}
+IfNoSpace P (Commit fault) = Unit {0}
+IfNoSpace P OutOfMemory = Unit {0}
 
 -- the commit of an update failed
 pub record FailsToCommit (told now : Told Entry) (txn : Txn) (fault : CommitFault) : Type 0 where

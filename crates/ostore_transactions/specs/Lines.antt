@@ -18,7 +18,7 @@ use Rattle.ostore_transactions.specs.declared.attempt.Attempt.{Attempt}
 use Rattle.ostore_transactions.specs.declared.line.Line.{Line}
 use Rattle.ostore_transactions.specs.declared.line.Line.TheVariants.{Going, Committed, Aborted}
 use Rattle.ostore_transactions.specs.Attempts.{last_line, line_at, replies_in, IsOver}
-use Rattle.ostore_transactions.specs.Causes.{SameHistory, IsCause, ComesAt}
+use Rattle.ostore_transactions.specs.Causes.{SameHistory, IsCause, ComesAt, LacksPlace, IfNoSpace}
 
 -- the entry of the client's transaction with these replies
 abbrev pub entry_by : ℕ → ℕ → Txn → List Reply → Entry
@@ -90,6 +90,7 @@ module _ (serves later : Script → Type 0) (told now : Told Entry) (old new : C
     pub same : SameHistory told now
     pub served : StillServes serves later
     pub over : IsOver new attempt
+    pub place : IfNoSpace (LacksPlace serves told old txn line) fault
 
   abbrev pub IsLine : ℕ → Line → Type 0
   IsLine ordinal Going = IsGoing

@@ -1,5 +1,6 @@
 -- What becomes of a client's pages, and of the copies that the service keeps of them, where an attempt ends.
-use Rattle.std.specs.Prelude.{◌≡◌, ℕ, false, length}
+use Rattle.std.specs.Prelude.{◌≡◌, ℕ, false, [], length}
+use Rattle.ostore_address_space.specs.Frames.{free_frames}
 use Rattle.ostore_page_service.specs.declared.answers.Released.{Released}
 use Rattle.ostore_page_service.specs.Told.{Told}
 use Rattle.ostore_graph_model.specs.declared.history.Entry.{Entry}
@@ -19,14 +20,15 @@ use Rattle.ostore_transactions.specs.declared.line.Line.TheVariants.{Going, Comm
 abbrev pub KeepsOthers : Told Entry → Told Entry → ClientView → Type 0
 KeepsOthers told now client = KeepsCopies (λ page. is_in_use (entry_of client page) ≡ false) told.mine now.mine
 
--- The client as it was when a fault came. Where the cache was full, it had so many pages in use; and a commit that failed
--- changed nothing of the client, and nothing of the copies of pages that weren't in use.
+-- The client as it was when a fault came. Where the cache was full, it had so many pages in use; where the frames were, none
+-- of its frames was free; and a commit that failed changed nothing of the client, and nothing of the copies of pages that
+-- weren't in use.
 abbrev pub IsMetBy : AttemptFault → Told Entry → Told Entry → (old met : ClientView) → Type 0
 IsMetBy (CacheFull used capacity) told now old met = used ≡ length (used_pages met.pages)
+IsMetBy (SpaceFull frames) told now old met = free_frames met.frames.pages ≡ []
 IsMetBy (Commit fault) told now old met = (met ≡ old) × KeepsOthers told now old
 IsMetBy (Busy busy) told now old met = Unit {0}
 IsMetBy (NoSpace segment need) told now old met = Unit {0}
-IsMetBy (SpaceFull frames) told now old met = Unit {0}
 IsMetBy OutOfMemory told now old met = Unit {0}
 
 module _ {T : Type 0} (releases : T → ℕ → Released → T → Type 0) (told now : Told Entry) (old : ClientView) where

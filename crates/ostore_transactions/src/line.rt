@@ -37,10 +37,11 @@ pub enum Line {
 /// of the line where this was a command's. Those that are committed are the attempt's. After every other answer no page is
 /// in use, and the attempt is before its first line; the copies of pages that were in use are kept exactly where the
 /// service allows it, but for those that an aborted attempt owned. A fault has its cause: Busy, where another client owns
-/// the page, or uses one that is to be owned; NoSpace, where fewer pages are free than the transaction may take; CacheFull
-/// and SpaceFull, where the cache or the frames are fewer than the pages of the database, and CacheFull only where the
-/// cache has, besides, fewer than 2 pages, the data pages and those that the transaction may take together; Commit, where
-/// the commit of an update failed; and want of memory.
+/// the page, or uses one that is to be owned; NoSpace, where fewer pages are free than the transaction may take, and the
+/// object of its command finds no place; CacheFull and SpaceFull, where the cache or the frames are fewer than the pages of
+/// the database, and CacheFull only where the cache has, besides, fewer than 2 pages, the data pages and those that the
+/// transaction may take together; Commit, where the commit of an update failed; and want of memory. Where the cache or the
+/// frames were full, each of them was in use or reserved before the attempt was aborted.
 pub fn run_line<M: Mapper, S: PageService<GraphKind>>(
     alloc: Global,
     attempt: &mut Attempt,

@@ -1,4 +1,4 @@
-use Rattle.std.proofs.Common.{◌+◌, length, sym, subst, arith}
+use Rattle.std.proofs.Common.{◌+◌, length, refl, sym, subst, arith}
 use Rattle.ostore_object_ops.specs.Progresses.{replies_of}
 use Rattle.ostore_transactions.specs.Lines.{HasFailed}
 use Rattle.ostore_transactions.specs.Causes.{IsCommandLine}
@@ -12,7 +12,7 @@ returns-in-Err-clause-failed g c =
     let at : IsCommandLine c.args.txn.now (length (replies_of c.args.progress) + 1) = (omega arith, omega arith) in
     subst (HasFailed (g.S.PageClaims.serves c.args.service.now) (g.S.PageClaims.serves c.abort.new.service) (g.S.PageClaims.tells c.args.service.now) (g.S.PageClaims.tells c.abort.new.service) c.args.client.now c.abort.new.self c.args.txn.now (length (replies_of c.args.progress) + 1) c.args.attempt.now) (sym c.fault_by.ensures)
     (line_failed (g.S.PageClaims.serves c.args.service.now) (g.S.PageClaims.serves c.execute_line.new.service) (g.S.PageClaims.serves c.abort.new.service) (g.S.PageClaims.tells c.args.service.now) (g.S.PageClaims.tells c.execute_line.new.service)
-    (g.S.PageClaims.tells c.abort.new.service) c.args.client.now c.execute_line.new.client c.abort.new.self c.args.txn.now (replies_of c.args.progress) (length (replies_of c.args.progress) + 1) c.args.attempt.now c.in-Err.stop c.requires.first at c.in-Err.ensures.stops c.in-Err.ensures.space c.in-Err.ensures.crowds c.in-Err.ensures.updates c.in-Err.ensures.place
+    (g.S.PageClaims.tells c.abort.new.service) c.args.client.now c.execute_line.new.client c.abort.new.self c.args.txn.now (replies_of c.args.progress) (length (replies_of c.args.progress) + 1) c.args.attempt.now c.in-Err.stop c.requires.first at c.in-Err.ensures.stops c.in-Err.ensures.space c.in-Err.ensures.crowds c.in-Err.ensures.updates c.in-Err.ensures.place c.in-Err.ensures.found refl
     c.holds_reached.ensures.reached c.abort.ensures.idle c.abort.ensures.same c.abort.ensures.served c.abort.ensures.calm)
 
 pub returns-clause-going : goal.returns-clause-going
