@@ -1,5 +1,5 @@
 -- The lines of an attempt, one after the other.
-use Rattle.std.proofs.Common.{◌≡◌, ℕ, ◌+◌, ◌<◌, ◌++◌, ◌∷◌, [], List, Bool, true, false, length, Option, None, Some, sym, ap, subst, ◌∙◌, arith}
+use Rattle.std.proofs.Common.{◌≡◌, ℕ, ◌+◌, ◌<◌, ◌++◌, ◌∷◌, [], List, Bool, true, false, length, Option, None, Some, refl, sym, ap, subst, ◌∙◌, arith}
 use Rattle.std.specs.Prelude.{All}
 use Rattle.std.specs.Option.{option_map}
 use Rattle.ostore_base.specs.Faults.{Rose}
@@ -14,14 +14,17 @@ use Rattle.ostore_graph_model.specs.History.{txn_at}
 use Rattle.ostore_client_core.specs.declared.fault.AttemptFault.{AttemptFault}
 use Rattle.ostore_client_core.specs.declared.fault.AttemptFault.TheVariants.{Busy, NoSpace, CacheFull, SpaceFull, Commit, OutOfMemory}
 use Rattle.ostore_client_core.specs.Clients.{ClientView, IsIdle, IsOwn}
+use Rattle.ostore_client_core.specs.Attempts.{MayBe}
 use Rattle.ostore_client_core.specs.Calls.{SameClient}
+use Rattle.ostore_client_core.proofs.StayLaws.{Stays, ServesOne, stays_running}
 use Rattle.ostore_client_core.proofs.RecordLaws.{service_then, records_refl, records_then, calm_refl, calm_then}
+use Rattle.ostore_client_access.specs.Attempts.{HasMade}
 use Rattle.ostore_client_access.specs.inside.Passing.{client_refl, client_then, meets_then}
 use Rattle.ostore_transactions.specs.declared.attempt.Attempt.{Attempt}
 use Rattle.ostore_transactions.specs.Attempts.{line_at, line_in, HasTxn, IsAt, IsWith}
-use Rattle.ostore_transactions.specs.Causes.{IsCause, LacksPages, CrowdsPages, FindsNoPlace, NoFaults}
+use Rattle.ostore_transactions.specs.Causes.{IsCause, LacksPages, CrowdsPages, FindsNoPlace, LacksPlace, IfNoSpace, NoFaults}
 use Rattle.ostore_transactions.specs.Lines.{entry_by, IsGoing, IsCommitted, IsAborted, HasFailed}
-use Rattle.ostore_transactions.specs.Ends.{HasCommitted, HasAborted, HasGivenUp}
+use Rattle.ostore_transactions.specs.Ends.{LackedPlace, HasCommitted, HasAborted, HasGivenUp}
 use Rattle.ostore_transactions.specs.inside.Going.{GoesOn, HasGone}
 use Rattle.ostore_transactions.proofs.FailLaws.{reached_as}
 
@@ -72,6 +75,50 @@ txn_still a b t u x y txn ordinal goes has = record {
   rises = subst (λ (l : List (Entry × ℕ)). All (λ (earlier : Entry × ℕ). earlier.0.ordinal < ordinal) l) (sym goes.same.records) has.rises;
 }
 
+-- ---- what was known of a moment between its lines
+
+stays_refl : (t : Told Entry) → Stays t t
+stays_refl t = record {
+  client = refl;
+  opened = refl;
+  mine = record { held = λ q. refl; owned = λ q. refl; kept = λ q image is. is; droppable = λ q. refl; records = refl; room = refl };
+}
+
+one_served : (a b : Script → Type 0) (t u : Told Entry) (x y : ClientView) → GoesOn a b t u x y → IsOwn a t x → ServesOne a y.schema
+one_served a b t u x y goes own = (own.script.0, own.script.1, own.script.2 ∙ sym goes.client.schema)
+
+-- what the attempt may stand for then, it may stand for where the scripts are counted that were served at its beginning
+earlier_may : (a b : Script → Type 0) (u : Told Entry) (y : ClientView) (base list : List PageImage) → ServesOne a y.schema → MayBe b u y base list → MayBe a u y base list
+earlier_may a b u y base list one may = record { runs = stays_running b a u u y (stays_refl u) one may.runs; began = may.began; made = may.made }
+
+earlier_made : (a b : Script → Type 0) (u : Told Entry) (y : ClientView) (txn : Txn) (replies : List Reply) → ServesOne a y.schema → HasMade b u y txn replies → HasMade a u y txn replies
+earlier_made a b u y txn replies one made = record {
+  runs = stays_running b a u u y (stays_refl u) one made.runs;
+  made = λ base list may. made.made base list (record { runs = made.runs; began = may.began; made = may.made });
+  reads = made.reads;
+}
+
+lacked_then : (a b : Script → Type 0) (t u : Told Entry) (x y : ClientView) (txn : Txn) (line : ℕ) (fault : AttemptFault) → GoesOn a b t u x y → IsOwn a t x → IfNoSpace (LacksPlace b u y txn line) fault
+    → IfNoSpace (LackedPlace a t x txn) fault
+lacked_then a b t u x y txn line (NoSpace segment need) goes own lacks =
+    let found = lacks.found in
+    record {
+      then = u;
+      between = y;
+      moment = record { same = goes.same; client = goes.client };
+      line = line;
+      place = record {
+        replies = lacks.replies;
+        next = lacks.next;
+        found = record { base = found.base; list = found.list; may = earlier_may a b u y found.base found.list (one_served a b t u x y goes own) found.may; lacks = found.lacks };
+      };
+    }
+lacked_then a b t u x y txn line (Busy busy) goes own lacks = tt
+lacked_then a b t u x y txn line (CacheFull used capacity) goes own lacks = tt
+lacked_then a b t u x y txn line (SpaceFull frames) goes own lacks = tt
+lacked_then a b t u x y txn line (Commit fault) goes own lacks = tt
+lacked_then a b t u x y txn line OutOfMemory goes own lacks = tt
+
 -- ---- the line that ends the attempt
 
 numbers_then : (update : Bool) (t u v : Told Entry) (number : ℕ) → u.number ≡ t.number → Numbers update u v number → Numbers update t v number
@@ -93,12 +140,19 @@ whole_committed a b c t u v x y z txn line attempt ordinal number replies goes o
   faults = record { faults = one.done.faults ∙ goes.same.faults; disk_faults = one.done.disk_faults ∙ goes.same.disk_faults };
 }
 
-pub whole_aborted : (a b c : Script → Type 0) (t u v : Told Entry) (x y z : ClientView) (txn : Txn) (line : ℕ) (attempt : Attempt) → GoesOn a b t u x y → IsAborted b c u v y z txn line attempt → HasAborted a c t v x txn
-whole_aborted a b c t u v x y z txn line attempt goes one = record {
+pub whole_aborted : (a b c : Script → Type 0) (t u v : Told Entry) (x y z : ClientView) (txn : Txn) (line : ℕ) (attempt : Attempt) → GoesOn a b t u x y → IsOwn a t x → IsAborted b c u v y z txn line attempt → HasAborted a c t v x txn
+whole_aborted a b c t u v x y z txn line attempt goes own one = record {
   aborts = one.aborts;
   same = records_then t u v goes.same one.same;
   served = λ script serving. one.served script (goes.served script serving);
   calm = calm_then t u v goes.calm one.calm;
+  ran = record {
+    then = u;
+    between = y;
+    moment = record { same = goes.same; client = goes.client };
+    replies = one.replies;
+    made = earlier_made a b u y txn one.replies (one_served a b t u x y goes own) one.made;
+  };
 }
 
 -- ---- the line that fails
@@ -152,9 +206,9 @@ cause_then a b t u v x y txn (Commit fault) goes why = (
 )
 cause_then a b t u v x y txn OutOfMemory goes why = (calm_then t u v goes.calm why.0, faults_then t u v goes.same why.1)
 
-pub whole_failed : (a b c : Script → Type 0) (t u v : Told Entry) (x y z : ClientView) (txn : Txn) (line : ℕ) (attempt : Attempt) (fault : AttemptFault) → GoesOn a b t u x y → HasFailed b c u v y z txn line attempt fault
+pub whole_failed : (a b c : Script → Type 0) (t u v : Told Entry) (x y z : ClientView) (txn : Txn) (line : ℕ) (attempt : Attempt) (fault : AttemptFault) → GoesOn a b t u x y → IsOwn a t x → HasFailed b c u v y z txn line attempt fault
     → HasGivenUp a c t v x txn fault
-whole_failed a b c t u v x y z txn line attempt fault goes one =
+whole_failed a b c t u v x y z txn line attempt fault goes own one =
     let less = goes.same.room in
     let fewer = one.same.room in
     record {
@@ -167,4 +221,5 @@ whole_failed a b c t u v x y z txn line attempt fault goes one =
         writes = one.same.writes ∙ goes.same.writes;
       };
       served = λ script serving. one.served script (goes.served script serving);
+      place = lacked_then a b t u x y txn line fault goes own one.place;
     }

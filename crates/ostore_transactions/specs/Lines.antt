@@ -73,7 +73,8 @@ module _ (serves later : Script → Type 0) (told now : Told Entry) (old new : C
     pub served : ServesNamed serves later told old txn ordinal
     pub over : IsOver new attempt
 
-  -- It was the last line, and the script aborts the transaction. All pages were given back, those that it owned void.
+  -- It was the last line, and the script aborts the transaction, of which each command had run and has one of these replies.
+  -- All pages were given back, those that it owned void.
   pub record IsAborted : Type 0 where
     pub last : line ≡ last_line txn
     pub aborts : txn.aborts ≡ true
@@ -82,6 +83,8 @@ module _ (serves later : Script → Type 0) (told now : Told Entry) (old new : C
     pub served : StillServes serves later
     pub calm : NoBusy told now
     pub over : IsOver new attempt
+    pub replies : List Reply
+    pub made : HasMade serves told old txn replies
 
   -- the line failed, and the attempt was aborted
   pub record HasFailed (fault : AttemptFault) : Type 0 where

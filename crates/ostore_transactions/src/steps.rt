@@ -119,15 +119,19 @@ pub(crate) fn run_next<M: Mapper, S: PageService<GraphKind>>(
     Ok(())
 }
 
-/// The line that aborts a transaction, as its script says.
+/// The line that aborts a transaction of which each command has a reply, as its script says.
 fn abort_attempt<M: Mapper, S: PageService<GraphKind>>(
     client: &mut Client<'_, M>,
     service: &mut S,
     txn: &Txn,
+    progress: &Progress,
     attempt: &Attempt,
 )
     requires own { IsOwn (S.serves service.old) (S.tells service.old) client.old }
     requires first { attempt.now.progress ≡ None }
+    requires along { IsAlong (S.serves service.old) (S.tells service.old) client.old txn.now
+        progress.now }
+    requires end { length txn.now.commands ≤ length (replies_of progress.now) }
     requires aborts { txn.now.aborts ≡ true }
     ensures aborted { IsAborted (S.serves service.old) (S.serves service.new)
         (S.tells service.old) (S.tells service.new) client.old client.new txn.now
@@ -137,8 +141,8 @@ fn abort_attempt<M: Mapper, S: PageService<GraphKind>>(
     ensures own { IsOwn (S.serves service.new) (S.tells service.new) client.new }
     ensures client { SameClient client.old client.new }
 {
-    let _txn = txn;
     let _attempt = attempt;
+    lines_have_made(client, service, txn, progress);
     client.abort(service);
 }
 
@@ -230,7 +234,7 @@ pub(crate) fn end_attempt<M: Mapper, S: PageService<GraphKind>>(
     ensures client { SameClient client.old client.new }
 {
     if txn.aborts {
-        abort_attempt(client, service, txn, attempt);
+        abort_attempt(client, service, txn, &progress, attempt);
         return Ok(Line::Aborted);
     }
     commit_attempt(client, service, turn, txn, ordinal, progress, attempt)

@@ -28,7 +28,7 @@ pub enum Ended {
 }
 
 /// Executes all lines of a client's transaction, as [`run_line`] does, from no page in use to no page in use. Aborted comes
-/// exactly where the script aborts the transaction.
+/// exactly where the script aborts the transaction, after all of its commands have run.
 pub fn run_attempt<M: Mapper, S: PageService<GraphKind>>(
     alloc: Global,
     client: &mut Client<'_, M>,
