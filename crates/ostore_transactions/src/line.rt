@@ -71,7 +71,8 @@ pub fn run_line<M: Mapper, S: PageService<GraphKind>>(
     ensures retained { IfOk result (RetainsBy S.releases (S.tells service.old)
         (S.tells service.new) client.old) }
     ensures aborted { IfErr result (WasAborted S.releases (S.tells service.old)
-        (S.tells service.new) client.old client.new) }
+        (S.tells service.new) client.old client.new txn.now
+        (line_at attempt.old)) }
     ensures own { IsOwn (S.serves service.new) (S.tells service.new) client.new }
     ensures at { IsAt (S.serves service.new) (S.tells service.new) client.new txn.now
         attempt.new }

@@ -43,7 +43,7 @@ pub(crate) fn begin_attempt<M: Mapper, S: PageService<GraphKind>>(
     ensures failed { IfErr result (HasFailed (S.serves service.old) (S.serves service.new)
         (S.tells service.old) (S.tells service.new) client.old client.new txn.now 0 attempt.new) }
     ensures aborted { IfErr result (WasAborted S.releases (S.tells service.old)
-        (S.tells service.new) client.old client.new) }
+        (S.tells service.new) client.old client.new txn.now 0) }
     ensures own { IsOwn (S.serves service.new) (S.tells service.new) client.new }
     ensures at { IsAt (S.serves service.new) (S.tells service.new) client.new txn.now
         attempt.new }
@@ -100,7 +100,8 @@ pub(crate) fn run_next<M: Mapper, S: PageService<GraphKind>>(
         (S.tells service.old) (S.tells service.new) client.old client.new txn.now
         (length (replies_of progress) + 1) attempt.new) }
     ensures aborted { IfErr result (WasAborted S.releases (S.tells service.old)
-        (S.tells service.new) client.old client.new) }
+        (S.tells service.new) client.old client.new txn.now
+        (length (replies_of progress) + 1)) }
     ensures own { IsOwn (S.serves service.new) (S.tells service.new) client.new }
     ensures at { IsAt (S.serves service.new) (S.tells service.new) client.new txn.now
         attempt.new }
@@ -173,7 +174,8 @@ fn commit_attempt<M: Mapper, S: PageService<GraphKind>>(
     ensures retained { IfOk result (RetainsBy S.releases (S.tells service.old)
         (S.tells service.new) client.old) }
     ensures aborted { IfErr result (WasAborted S.releases (S.tells service.old)
-        (S.tells service.new) client.old client.new) }
+        (S.tells service.new) client.old client.new txn.now
+        (last_line txn.now)) }
     ensures own { IsOwn (S.serves service.new) (S.tells service.new) client.new }
     ensures client { SameClient client.old client.new }
 {
@@ -229,7 +231,8 @@ pub(crate) fn end_attempt<M: Mapper, S: PageService<GraphKind>>(
     ensures retained { IfOk result (RetainsBy S.releases (S.tells service.old)
         (S.tells service.new) client.old) }
     ensures aborted { IfErr result (WasAborted S.releases (S.tells service.old)
-        (S.tells service.new) client.old client.new) }
+        (S.tells service.new) client.old client.new txn.now
+        (last_line txn.now)) }
     ensures own { IsOwn (S.serves service.new) (S.tells service.new) client.new }
     ensures client { SameClient client.old client.new }
 {

@@ -1,6 +1,6 @@
 use Rattle.std.proofs.Common.{refl}
 use Rattle.ostore_transactions.proofs.CommitLaws.{committed, commit_failed}
-use Rattle.ostore_transactions.proofs.RetainLaws.{commit_met}
+use Rattle.ostore_transactions.proofs.RetainLaws.{commit_met, others_then}
 use Rattle.ostore_transactions.proofs.steps.commit_attempt.Goals as goal
 
 pub returns-in-Ok-finish-clause-line : goal.returns-in-Ok-finish-clause-line
@@ -22,8 +22,9 @@ returns-in-Err-finish-clause-aborted g c =
     record {
       met = c.finish.new.self;
       same = failed.same_client;
-      is = commit_met (g.S.PageClaims.tells c.args.service.now) (g.S.PageClaims.tells c.finish.new.service) (g.S.PageClaims.tells c.abort-in-Err-finish.new.service) c.args.client.now c.finish.new.self
-          (record { client = c.client.result; ordinal = c.args.ordinal; update = c.args.txn.now.update; replies = c.in-Ok.copy }) c.in-Err-finish.fault failed.failed failed.client failed.copies aborted.copies;
+      is = commit_met (g.S.PageClaims.tells c.args.service.now) (g.S.PageClaims.tells c.finish.new.service) c.finish.new.self
+          (record { client = c.client.result; ordinal = c.args.ordinal; update = c.args.txn.now.update; replies = c.in-Ok.copy }) c.in-Err-finish.fault failed.failed;
+      others = λ no. (failed.client, others_then (g.S.PageClaims.tells c.args.service.now) (g.S.PageClaims.tells c.finish.new.service) (g.S.PageClaims.tells c.abort-in-Err-finish.new.service) c.args.client.now c.finish.new.self failed.client failed.copies aborted.copies);
       released = aborted.released;
       answered = aborted.answered;
     }
