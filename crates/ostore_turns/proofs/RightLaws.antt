@@ -16,11 +16,11 @@ use Rattle.ostore_turns.specs.declared.attempts.Gave.TheVariants.{Going, Committ
 use Rattle.ostore_turns.specs.declared.place.Place.{Place}
 use Rattle.ostore_turns.specs.declared.running.TurnsRun.{TurnsRun}
 use Rattle.ostore_turns.specs.Places.{Moment, HasLine, is_retried, moved, next_attempt, next_txn}
-use Rattle.ostore_turns.specs.LawfulTurns.{IsCauseAt, MayGive, StopsRun}
+use Rattle.ostore_turns.specs.LawfulTurns.{IsCauseAt, IsCommandLine, MayGive, StopsRun}
 use Rattle.ostore_turns.specs.Schedules.{Turn, Takes}
 use Rattle.ostore_turns.specs.TurnResults.{committed_as, result_by, result_at, ended_by, with_not_run, results_from, AllByClient, AllByTxn}
 use Rattle.ostore_turns.specs.Runs.{HasEnded, IsFirst, IsRunBy}
-use Rattle.ostore_turns.specs.RightResults.{IsTried, MayGiveUp, IsRightResult, AreRight}
+use Rattle.ostore_turns.specs.RightResults.{HasCommand, IsTried, MayGiveUp, IsRightResult, AreRight}
 use Rattle.ostore_turns.specs.inside.Steps.{IsFitPlace}
 use Rattle.ostore_turns.proofs.TakeLaws.{result_mine, result_other}
 use Rattle.ostore_turns.proofs.WalkLaws.{AreFit, first_fit, turn_fits, mine, other, all_ended, drop_there, drop_past}
@@ -40,16 +40,19 @@ committed_right : (failed : Bool) (client : JobClient) (txn : Txn) (update : Boo
 committed_right failed client txn true number tries replies kind kept tried = (kept, kind, tried)
 committed_right failed client txn false number tries replies kind kept tried = (kept, kind, tried)
 
+has_command : (txn : Txn) (at : Place) → IsCommandLine txn at → HasCommand txn
+has_command txn at command = let low = command.0 in let high = command.1 in omega (arith, low, high)
+
 may_give_up : (failed : Bool) (clients : List JobClient) (before : Moment) (number : ℕ) (client : JobClient) (txn : Txn) (at : Place) (cause : Cause) → IsFitPlace client at → IsCauseAt clients before number txn cause
     → (StopsRun (Failed cause) → failed ≡ true) → is_retried client.tries at cause ≡ false → MayGiveUp failed client txn (at.failed + 1) cause
 may_give_up failed clients before number client txn at (Busy page seen found) fits cause stops last =
     let most = ltb-false (at.failed + 1) client.tries last in
     let low = fits.tries in
-    omega (arith, most, low)
-may_give_up failed clients before number client txn at (NoSpace segment need) fits cause stops last = tt
-may_give_up failed clients before number client txn at (CacheFull used capacity) fits cause stops last = tt
-may_give_up failed clients before number client txn at (SpaceFull frames) fits cause stops last = tt
-may_give_up failed clients before number client txn at Disk fits cause stops last = (stops tt, cause.1)
+    (omega (arith, most, low), has_command txn (before.places number) cause.0)
+may_give_up failed clients before number client txn at (NoSpace segment need) fits cause stops last = cause.1
+may_give_up failed clients before number client txn at (CacheFull used capacity) fits cause stops last = has_command txn (before.places number) cause
+may_give_up failed clients before number client txn at (SpaceFull frames) fits cause stops last = has_command txn (before.places number) cause
+may_give_up failed clients before number client txn at Disk fits cause stops last = (stops tt, cause.1, cause.2)
 may_give_up failed clients before number client txn at (Stopped after) fits cause stops last = absurd cause
 
 failed_ends : (failed : Bool) (client : JobClient) (txn : Txn) (at : Place) (cause : Cause) (retried : Bool) → IsFitPlace client at → (retried ≡ false → MayGiveUp failed client txn (at.failed + 1) cause)

@@ -1,5 +1,7 @@
 -- What a turn may give, and what it leaves.
-use Rattle.std.specs.Prelude.{◌≡◌, ◌≢◌, ◌≤◌, ◌+◌, ◌⊎◌, ◌==◌, ℕ, Bool, true, false, if◌then◌else◌, List, [], ◌∷◌, ◌++◌, length}
+use Rattle.std.specs.Prelude.{◌≡◌, ◌≢◌, ◌≤◌, ◌+◌, ◌⊎◌, ◌==◌, ℕ, Bool, true, false, if◌then◌else◌, List, [], ◌∷◌, ◌++◌, length, Some}
+use Rattle.std.specs.List.{slice_get}
+use Rattle.ostore_graph_model.specs.declared.commands.Command.TheVariants.{New}
 use Rattle.ostore_graph_model.specs.declared.commands.Txn.{Txn}
 use Rattle.ostore_graph_model.specs.declared.history.Committed.{Committed as Recorded}
 use Rattle.ostore_job_text.specs.declared.job.JobClient.{JobClient}
@@ -29,6 +31,16 @@ pub record IsMet (clients : List JobClient) (now : Moment) (number : ℕ) (txn :
   pub executed : 2 ≤ (now.places other).line
   pub updates : (txn.update ≡ true) ⊎ (begun.update ≡ true)
 
+-- ---- no space
+
+-- the transaction is an update, and one of its commands makes an object in this segment
+pub record MakesIn (txn : Txn) (segment : ℕ) : Type 0 where
+  pub update : txn.update ≡ true
+  pub place : ℕ
+  pub to : List ℕ
+  pub ty : List ℕ
+  pub command : slice_get txn.commands place ≡ Some (New to ty segment)
+
 -- ---- what a line may give
 
 -- the line is a command
@@ -39,14 +51,15 @@ IsCommandLine txn at = (1 ≤ at.line) × (at.line ≤ length txn.commands)
 abbrev pub IsLastLine : Txn → Place → Type 0
 IsLastLine txn at = at.line + 1 ≡ lines_of txn
 
--- Why an attempt may end without a commit: at a command, where another client is met, or where something has run out;
--- or by a disk call of a commit that failed.
+-- Why an attempt may end without a commit: at a command, where another client is met, where an update that makes an object
+-- in a segment finds no space there, or where a cache or the frames have run out; or by a disk call that failed, at the
+-- commit of an update.
 abbrev pub IsCauseAt : List JobClient → Moment → ℕ → Txn → Cause → Type 0
 IsCauseAt clients now number txn (Busy page seen found) = IsCommandLine txn (now.places number) × IsMet clients now number txn
-IsCauseAt clients now number txn (NoSpace segment need) = IsCommandLine txn (now.places number)
+IsCauseAt clients now number txn (NoSpace segment need) = IsCommandLine txn (now.places number) × MakesIn txn segment
 IsCauseAt clients now number txn (CacheFull used capacity) = IsCommandLine txn (now.places number)
 IsCauseAt clients now number txn (SpaceFull frames) = IsCommandLine txn (now.places number)
-IsCauseAt clients now number txn Disk = IsLastLine txn (now.places number) × (txn.update ≡ true)
+IsCauseAt clients now number txn Disk = IsLastLine txn (now.places number) × (txn.update ≡ true) × (txn.aborts ≡ false)
 IsCauseAt clients now number txn (Stopped after) = ⊥
 
 -- an update has the next number, and a read that of the last commit

@@ -11,6 +11,7 @@ use Rattle.ostore_run_report.specs.declared.results.TxnResult.{TxnResult}
 use Rattle.ostore_run_report.specs.declared.results.TxnResult.TheVariants.{Commit, Read, Abort, GaveUp, NotRun}
 use Rattle.ostore_run_report.specs.Results.{committed_from}
 use Rattle.ostore_turns.specs.declared.running.TurnsRun.{TurnsRun}
+use Rattle.ostore_turns.specs.LawfulTurns.{MakesIn}
 use Rattle.ostore_turns.specs.Places.{Moment}
 use Rattle.ostore_turns.specs.TurnResults.{AllByClient, AllByTxn}
 use Rattle.ostore_turns.specs.Runs.{IsFirst, IsRunBy}
@@ -21,13 +22,19 @@ use Rattle.ostore_turns.specs.Runs.{IsFirst, IsRunBy}
 abbrev pub IsTried : JobClient → ℕ → Type 0
 IsTried client tries = (1 ≤ tries) × (tries ≤ client.tries)
 
--- why it may have been given up: for busy on its last try, and for a disk call only where the run ended with that
+-- a transaction has a command
+abbrev pub HasCommand : Txn → Type 0
+HasCommand txn = 1 ≤ length txn.commands
+
+-- Why it may have been given up: at a command, for busy on its last try, and for no space where it is an update that makes
+-- an object in that segment; or at its commit, for a disk call, where it is an update that its script doesn't abort, and the
+-- run ended with that.
 abbrev pub MayGiveUp : Bool → JobClient → Txn → ℕ → Cause → Type 0
-MayGiveUp disk_failed client txn tries (Busy page seen found) = tries ≡ client.tries
-MayGiveUp disk_failed client txn tries (NoSpace segment need) = Unit {0}
-MayGiveUp disk_failed client txn tries (CacheFull used capacity) = Unit {0}
-MayGiveUp disk_failed client txn tries (SpaceFull frames) = Unit {0}
-MayGiveUp disk_failed client txn tries Disk = (disk_failed ≡ true) × (txn.update ≡ true)
+MayGiveUp disk_failed client txn tries (Busy page seen found) = (tries ≡ client.tries) × HasCommand txn
+MayGiveUp disk_failed client txn tries (NoSpace segment need) = MakesIn txn segment
+MayGiveUp disk_failed client txn tries (CacheFull used capacity) = HasCommand txn
+MayGiveUp disk_failed client txn tries (SpaceFull frames) = HasCommand txn
+MayGiveUp disk_failed client txn tries Disk = (disk_failed ≡ true) × (txn.update ≡ true) × (txn.aborts ≡ false)
 MayGiveUp disk_failed client txn tries (Stopped after) = ⊥
 
 -- A transaction that its script aborts is aborted, an update is committed and a read has read, unless it was given up,
