@@ -31,13 +31,13 @@ use Rattle.ostore_client_core.specs.declared.fault.AttemptFault.TheVariants as f
 use Rattle.ostore_transactions.specs.declared.line.Line.{Line}
 use Rattle.ostore_transactions.specs.declared.line.Line.TheVariants as lines
 use Rattle.ostore_transactions.specs.Attempts.{last_line, line_at}
-use Rattle.ostore_transactions.specs.Causes.{CrowdsPages as CrowdsThere, IsCommandLine as IsCommand, LacksPages as LacksThere}
+use Rattle.ostore_transactions.specs.Causes.{CrowdsPages as CrowdsThere, FailsToCommit, FindsNoPlace, IsCommandLine as IsCommand, LacksPages as LacksThere}
 use Rattle.ostore_transactions.specs.Lines.{HasFailed, entry_by}
 use Rattle.ostore_turns.specs.declared.attempts.Gave.{Gave}
 use Rattle.ostore_turns.specs.declared.attempts.Gave.TheVariants.{Going, Committed, Aborted}
 use Rattle.ostore_turns.specs.declared.place.Place.{Place}
 use Rattle.ostore_turns.specs.Places.{IsIn, Moment, moved}
-use Rattle.ostore_turns.specs.LawfulTurns.{commits_then, IsCauseAt, IsCommandLine, IsLastLine, MayGive, Turns, moved_one, recorded_one, records_then}
+use Rattle.ostore_turns.specs.LawfulTurns.{commits_then, IsCauseAt, IsCommandLine, IsLastLine, MakesIn, MayGive, Turns, moved_one, recorded_one, records_then}
 use Rattle.ostore_turns.specs.Bounds.{GivesWithin, IsBounded}
 use Rattle.ostore_graph_history.specs.Histories.{committed_entry}
 use Rattle.ostore_graph_history.specs.Space.{IsAhead, IsBelowScript, LacksPages, LawOfFewPages, LawOfLackedSpace}
@@ -72,6 +72,13 @@ txn_named schema job number i client txn there next =
     ap (txn_at (script_of schema job) number) ordinal ∙ at
     ∙ ap (λ (o : Option (List Txn)). option_and_then (λ (txns : List Txn). slice_get txns i) o) (slice_get-map (λ (c : JobClient). c.txns) job.clients number ∙ ap (option_map (λ (c : JobClient). c.txns)) there)
     ∙ next
+
+-- ---- an object that finds no place
+
+-- it is made in the segment that has none
+makes_in : (schema : Schema) (txn : Txn) (segment need : ℕ) → txn.update ≡ true → FindsNoPlace schema txn (record { segment = segment; need = need }) → MakesIn txn segment
+makes_in schema txn segment need update (replies, list, (command, there, lacks)) =
+    record { update = update; place = length replies; to = lacks.to; ty = lacks.ty; command = there ∙ ap Some lacks.is }
 
 -- ---- a client whose turn it is
 
@@ -216,19 +223,20 @@ module _ (serves later : Script → Type 0) (told now : ℕ → Told Entry) (ope
       let high_line = command.1 in
       (omega arith, omega arith)
 
-  cause_commit : (fault : CommitFault) (cause : Cause) → cause_of_commit fault ≡ Some cause → line_at old.attempt ≡ last_line txn → txn.update ≡ true → IsCauseAt job.clients before number txn cause
-  cause_commit commit_faults.DiskFault cause is last update = subst (IsCauseAt job.clients before number txn) (same_Some causes.Disk cause is) (at_last last, update)
-  cause_commit (commit_faults.Stopped count) cause is last update = subst (IsCauseAt job.clients before number txn) (same_Some causes.Disk cause is) (at_last last, update)
-  cause_commit commit_faults.OutOfMemory cause is last update = absurd (none-some cause is)
+  cause_commit : (fault : CommitFault) (cause : Cause) → cause_of_commit fault ≡ Some cause → line_at old.attempt ≡ last_line txn → FailsToCommit (told number) (now number) txn fault → IsCauseAt job.clients before number txn cause
+  cause_commit commit_faults.DiskFault cause is last fails = subst (IsCauseAt job.clients before number txn) (same_Some causes.Disk cause is) (at_last last, fails.update, fails.kept)
+  cause_commit (commit_faults.Stopped count) cause is last fails = subst (IsCauseAt job.clients before number txn) (same_Some causes.Disk cause is) (at_last last, fails.update, fails.kept)
+  cause_commit commit_faults.OutOfMemory cause is last fails = absurd (none-some cause is)
 
   cause_may : (fault : AttemptFault) (cause : Cause) → cause_of fault ≡ Some cause → HasFailed serves later (told number) (now number) old.client new.client txn (line_at old.attempt) new.attempt fault
       → IsCauseAt job.clients before number txn cause
   cause_may (faults.Busy busy) cause is failed = subst (IsCauseAt job.clients before number txn) (same_Some (causes.Busy busy.page busy.seen busy.found) cause is)
       (at_command failed.at, is_met serves told schema job.clients seats opened commits number txn busy.page.0 all ready.seated failed.cause.0.met)
-  cause_may (faults.NoSpace segment need) cause is failed = subst (IsCauseAt job.clients before number txn) (same_Some (causes.NoSpace segment need) cause is) (at_command failed.at)
+  cause_may (faults.NoSpace segment need) cause is failed = subst (IsCauseAt job.clients before number txn) (same_Some (causes.NoSpace segment need) cause is)
+      (at_command failed.at, makes_in old.client.schema txn segment need failed.cause.0 failed.cause.4)
   cause_may (faults.CacheFull used capacity) cause is failed = subst (IsCauseAt job.clients before number txn) (same_Some (causes.CacheFull used capacity) cause is) (at_command failed.at)
   cause_may (faults.SpaceFull frames) cause is failed = subst (IsCauseAt job.clients before number txn) (same_Some (causes.SpaceFull frames) cause is) (at_command failed.at)
-  cause_may (faults.Commit fault) cause is failed = cause_commit fault cause is failed.at failed.cause.0.update
+  cause_may (faults.Commit fault) cause is failed = cause_commit fault cause is failed.at failed.cause.0
   cause_may faults.OutOfMemory cause is failed = absurd (none-some cause is)
 
   may_by : (result : Result Line AttemptFault) → GivesLine serves later (told number) (now number) old.client new.client txn (line_at old.attempt) new.attempt (old.place.txn + 1) result → gave_of result ≡ Some gave
