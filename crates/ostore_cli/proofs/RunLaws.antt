@@ -83,7 +83,7 @@ module _ (script : Script) (text : List ℕ) (one : LawOfOneGraph) (stands : Sta
   ends_as client txn (Commit number tries replies) right alone within = (alone, right.0, right.1)
   ends_as client txn (Read number tries replies) right alone within = (alone, right.0, right.1)
   ends_as client txn (Abort tries) right alone within = (alone, right.0)
-  ends_as client txn (GaveUp tries cause) right alone within = (alone.0, alone.1, cause_within client cause within)
+  ends_as client txn (GaveUp tries cause) right alone within = (alone.0, alone.1, cause_within client cause within, right.1)
   ends_as client txn NotRun right alone within = absurd (false≢true right)
 
   txns_end : (client : JobClient) (txns : List Txn) (results : List TxnResult) → AllByTxn (IsRightResult false client) txns results → AllByRecursion WasAlone results

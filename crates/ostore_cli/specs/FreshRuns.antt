@@ -12,6 +12,7 @@ use Rattle.ostore_run_report.specs.declared.results.TxnResult.TheVariants.{Commi
 use Rattle.ostore_run_report.specs.Results.{committed_of}
 use Rattle.ostore_turns.specs.Alone.{IsMetByNone}
 use Rattle.ostore_turns.specs.Bounds.{Bounds, IsBounded}
+use Rattle.ostore_turns.specs.RightResults.{MayGiveUp}
 use Rattle.ostore_turns.specs.TurnResults.{AllByClient, AllByTxn}
 
 -- ---- a fresh database
@@ -49,12 +50,14 @@ pub record HasRoom (script : Script) (clients : List JobClient) : Type 0 where
 -- ---- what becomes of transactions
 
 -- At its first try an update is committed and a read has read, and one that its script aborts is aborted. Or it is
--- given up, and within the bounds: for want of free pages, of room in its client's cache, or of frames.
+-- given up at a command, and within the bounds: for want of free pages where it is an update that makes an object, of room
+-- in its client's cache, or of frames.
 abbrev pub EndsAs : Bounds → JobClient → Txn → TxnResult → Type 0
 EndsAs bounds client txn (Commit number tries replies) = (tries ≡ 1) × (txn.aborts ≡ false) × (txn.update ≡ true)
 EndsAs bounds client txn (Read number tries replies) = (tries ≡ 1) × (txn.aborts ≡ false) × (txn.update ≡ false)
 EndsAs bounds client txn (Abort tries) = (tries ≡ 1) × (txn.aborts ≡ true)
-EndsAs bounds client txn (GaveUp tries cause) = (tries ≡ 1) × IsMetByNone cause × IsBounded bounds client cause
+EndsAs bounds client txn (GaveUp tries cause) =
+    (tries ≡ 1) × IsMetByNone cause × IsBounded bounds client cause × MayGiveUp false client txn tries cause
 EndsAs bounds client txn NotRun = ⊥
 
 -- each transaction of each client has one such result, in the order of the scripts
