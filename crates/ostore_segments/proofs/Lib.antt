@@ -14,6 +14,7 @@ pub mod RoomLaws
 pub mod AddingLaws
 pub mod MakeLaws
 pub mod ViewLaws
+pub mod OwnLaws
 pub mod NamingLaws
 pub mod RootLaws
 pub mod CellPlaceLaws

@@ -150,6 +150,7 @@ alone_rests list = record {
     homes = λ pointer stored at. at;
   };
   views = λ page below. below;
+  owns = λ page below. below;
 }
 
 -- after a fault that left it as it was

@@ -21,6 +21,8 @@ pub record PagesHeld : Type 1 where
   pub may_be : List PageImage → List PageImage → Type 0
   -- a page can be looked at
   pub in_view : ℕ → Type 0
+  -- a page was claimed for writing
+  pub owned : ℕ → Type 0
   -- the stored pointer for a resident one, where it leads to a page
   pub home : ℕ → Option ℕ
 
@@ -44,11 +46,12 @@ pub record Becomes (before after : PagesHeld) (R : List PageImage → List PageI
   pub views : (page : ℕ) → before.in_view page → after.in_view page
   pub homes : KeepsHomes before.home after.home
 
--- a holder that stands for one list alone, of which every page is in view, and whose pointers are stored ones
+-- a holder that stands for one list alone, of which every page is in view and owned, and whose pointers are stored ones
 abbrev pub alone : List PageImage → PagesHeld
 alone pages = record {
   may_be = λ begun list. list ≡ pages;
   in_view = λ page. page < length pages;
+  owned = λ page. page < length pages;
   home = λ pointer. Some pointer;
 }
 
@@ -56,7 +59,7 @@ alone pages = record {
 abbrev pub Sees : (List PageImage → Type 0) → List PageImage → List PageImage → Type 0
 Sees P old new = (new ≡ old) × P old
 
--- ---- pages that come into view
+-- ---- pages that come into view, and pages that come to be owned
 
 -- each page that is in view afterwards was so before, or is one of these
 pub record BringsOnly (before after : PagesHeld) (named : ℕ → Type 0) : Type 0 where
@@ -66,10 +69,19 @@ pub record BringsOnly (before after : PagesHeld) (named : ℕ → Type 0) : Type
 pub record BringsOnEach (before after : PagesHeld) (named : List PageImage → ℕ → Type 0) : Type 0 where
   pub each : (begun list : List PageImage) → after.may_be begun list → BringsOnly before after (named list)
 
--- the holder stands for the lists for which it stood, and no page came into view
+-- each page that is owned afterwards was so before, or is one of these
+pub record OwnsOnly (before after : PagesHeld) (named : ℕ → Type 0) : Type 0 where
+  pub owns : (page : ℕ) → after.owned page → before.owned page ⊎ named page
+
+-- each page that is owned afterwards was so before, or is one of these on each list for which the holder may then stand
+pub record OwnsOnEach (before after : PagesHeld) (named : List PageImage → ℕ → Type 0) : Type 0 where
+  pub each : (begun list : List PageImage) → after.may_be begun list → OwnsOnly before after (named list)
+
+-- the holder stands for the lists for which it stood, no page came into view, and no further one is owned
 pub record Rests (before after : PagesHeld) : Type 0 where
   pub lists : Becomes before after (λ old new. new ≡ old)
   pub views : (page : ℕ) → after.in_view page → before.in_view page
+  pub owns : (page : ℕ) → after.owned page → before.owned page
 
 -- Calls were broken off. Each list for which the holder may then stand has come from one for which it might stand before,
 -- and on that one the pages that came into view are these.

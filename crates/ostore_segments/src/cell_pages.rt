@@ -4,7 +4,7 @@ ghost use Rattle.std.specs.Prelude.{◌≡◌, ◌<◌, ◌+◌, ◌*◌, ◌%�
 ghost use Rattle.ostore_base.specs.declared.page.TheConstants.{PAGE_SIZE};
 ghost use Rattle.ostore_page_tags.specs.Limits.{most_pages};
 ghost use Rattle.ostore_page_tags.specs.PageLists.{with_bytes};
-ghost use Rattle.ostore_segments.specs.Holdings.{Stands, Becomes, BringsOnly, Rests};
+ghost use Rattle.ostore_segments.specs.Holdings.{Stands, Becomes, BringsOnly, OwnsOnly, Rests};
 ghost use Rattle.ostore_segments.specs.Edits.{HasBytesInCell};
 
 use crate::pages::Pages;
@@ -42,6 +42,8 @@ pub trait CellPages: Pages {
             (λ old new. new ≡ with_bytes old page.0 (offset + at) bytes.now)) }
         ensures passes { OnOk result (Self.passes self.old self.new) }
         ensures brings { OnOk result (BringsOnly (Self.held self.old) (Self.held self.new)
+            (λ named. named ≡ page.0)) }
+        ensures owns { OnOk result (OwnsOnly (Self.held self.old) (Self.held self.new)
             (λ named. named ≡ page.0)) }
         ensures fails { IfErr result (λ fault. Self.fails self.old fault self.new) }
         ensures stays { IfErr result (λ fault. Self.stays fault

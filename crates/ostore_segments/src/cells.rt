@@ -5,7 +5,7 @@ ghost use Rattle.byteorder.specs.Endian.{little_bytes};
 ghost use Rattle.ostore_page_tags.specs.declared.layout.TheConstants.{ROW_BYTES};
 ghost use Rattle.ostore_page_tags.specs.Changes.{IsCellAsked};
 ghost use Rattle.ostore_page_tags.specs.PageLists.{header_at};
-ghost use Rattle.ostore_segments.specs.Holdings.{Stands, Becomes, BringsOnly, BreaksOff};
+ghost use Rattle.ostore_segments.specs.Holdings.{Stands, Becomes, BringsOnly, OwnsOnly, BreaksOff};
 ghost use Rattle.ostore_segments.specs.Room.{HasRoomOn};
 ghost use Rattle.ostore_segments.specs.Adding.{Adds};
 ghost use Rattle.ostore_segments.specs.inside.Fields.{row_of_live};
@@ -51,6 +51,8 @@ pub fn add<P: Pages>(
         (λ old new. (offset ≡ (header_at old page.0).end) × Adds old new page.0 size code serial)) }
     ensures passes { OnOk result (P.passes pages.old pages.new) }
     ensures brings { OnOk result (BringsOnly (P.held pages.old) (P.held pages.new)
+        (λ named. named ≡ page.0)) }
+    ensures owns { OnOk result (OwnsOnly (P.held pages.old) (P.held pages.new)
         (λ named. named ≡ page.0)) }
     ensures fails { IfErr result (λ fault. P.fails pages.old fault pages.new) }
     ensures stays { IfErr result (λ fault. P.stays fault

@@ -3,7 +3,7 @@
 ghost use Rattle.std.specs.Prelude.{◌≡◌, map, IfOk, OnOk, IfErr, ⊤};
 ghost use Rattle.ostore_page_tags.specs.PageChains.{IsSegment};
 ghost use Rattle.ostore_page_tags.specs.Allocated.{IsAllocated, HasChain};
-ghost use Rattle.ostore_segments.specs.Holdings.{Stands, Becomes, Sees, BringsOnEach, BreaksOff};
+ghost use Rattle.ostore_segments.specs.Holdings.{Stands, Becomes, Sees, BringsOnEach, OwnsOnly, BreaksOff};
 ghost use Rattle.ostore_segments.specs.Listing.{MatchPagesOfFault};
 ghost use Rattle.ostore_segments.specs.Naming.{IsNamedIn};
 
@@ -37,6 +37,7 @@ pub fn pages_of<P: Pages>(
         (λ fault. P.fails pages.old fault pages.new) (P.passes pages.old pages.new)) }
     ensures brings { OnOk result (BringsOnEach (P.held pages.old) (P.held pages.new)
         (λ list. IsNamedIn list segment)) }
+    ensures owns { OnOk result (OwnsOnly (P.held pages.old) (P.held pages.new) (λ named. ⊥)) }
     ensures stays { IfErr result (λ why. MatchPagesOfFault why
         (λ fault. P.stays fault → BreaksOff (P.held pages.old) (P.held pages.new)
         (λ list. IsNamedIn list segment)) ⊤) }

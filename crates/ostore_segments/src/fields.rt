@@ -6,7 +6,7 @@ ghost use Rattle.ostore_page_tags.specs.PageLists.{header_at, first_of, with_byt
 ghost use Rattle.ostore_page_tags.specs.declared.layout.TheConstants.{FRONT_PAGE};
 ghost use Rattle.ostore_page_tags.specs.PageChains.{IsSegment};
 ghost use Rattle.ostore_page_tags.specs.Allocated.{IsAllocated};
-ghost use Rattle.ostore_segments.specs.Holdings.{Stands, Becomes, Sees, BringsOnly, Rests};
+ghost use Rattle.ostore_segments.specs.Holdings.{Stands, Becomes, Sees, BringsOnly, OwnsOnly, Rests};
 ghost use Rattle.ostore_segments.specs.Edits.{CanPut};
 ghost use Rattle.ostore_segments.specs.inside.Fields.{HasHeaderAt};
 
@@ -34,6 +34,7 @@ pub(crate) fn header_at<P: Pages>(pages: &mut P, page: PageNo) -> Result<PageHea
     ensures passes { OnOk result (P.passes pages.old pages.new) }
     ensures brings { OnOk result (BringsOnly (P.held pages.old) (P.held pages.new)
         (λ named. named ≡ page.0)) }
+    ensures owns { OnOk result (OwnsOnly (P.held pages.old) (P.held pages.new) (λ named. ⊥)) }
     ensures fails { IfErr result (λ fault. P.fails pages.old fault pages.new) }
     ensures stays { IfErr result (λ fault. P.stays fault
         → Rests (P.held pages.old) (P.held pages.new)) }
@@ -52,6 +53,7 @@ pub(crate) fn first_of<P: Pages>(pages: &mut P, segment: u8) -> Result<u32, P::F
     ensures passes { OnOk result (P.passes pages.old pages.new) }
     ensures brings { OnOk result (BringsOnly (P.held pages.old) (P.held pages.new)
         (λ named. named ≡ FRONT_PAGE)) }
+    ensures owns { OnOk result (OwnsOnly (P.held pages.old) (P.held pages.new) (λ named. ⊥)) }
     ensures fails { IfErr result (λ fault. P.fails pages.old fault pages.new) }
     ensures stays { IfErr result (λ fault. P.stays fault
         → Rests (P.held pages.old) (P.held pages.new)) }
@@ -75,6 +77,8 @@ pub(crate) fn put_number<P: Pages>(
         (λ old new. new ≡ with_bytes old page.0 at (little_bytes 4 value))) }
     ensures passes { OnOk result (P.passes pages.old pages.new) }
     ensures brings { OnOk result (BringsOnly (P.held pages.old) (P.held pages.new)
+        (λ named. named ≡ page.0)) }
+    ensures owns { OnOk result (OwnsOnly (P.held pages.old) (P.held pages.new)
         (λ named. named ≡ page.0)) }
     ensures fails { IfErr result (λ fault. P.fails pages.old fault pages.new) }
     ensures stays { IfErr result (λ fault. P.stays fault

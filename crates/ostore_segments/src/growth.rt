@@ -3,7 +3,7 @@
 ghost use Rattle.std.specs.Prelude.{◌≡◌, ◌≢◌, [], true, OnOk, IfOk, MatchOption, IfErr};
 ghost use Rattle.ostore_page_tags.specs.PageChains.{IsSegment};
 ghost use Rattle.ostore_page_tags.specs.Allocated.{IsAllocated, HasFree};
-ghost use Rattle.ostore_segments.specs.Holdings.{Stands, Becomes, BringsOnly, BringsOnEach, BreaksOff};
+ghost use Rattle.ostore_segments.specs.Holdings.{Stands, Becomes, BringsOnly, BringsOnEach, OwnsOnly, OwnsOnEach, BreaksOff};
 ghost use Rattle.ostore_segments.specs.Growth.{Grows};
 ghost use Rattle.ostore_segments.specs.Naming.{IsNamedIn, IsWantedIn};
 ghost use Rattle.ostore_segments.specs.inside.Fields.{BeginsWith, BeginsBeside, Takes, IsFrontOr};
@@ -26,6 +26,7 @@ fn take_free<P: Pages>(pages: &mut P, segment: u8, page: PageNo) -> Result<(), P
     ensures passes { OnOk result (P.passes pages.old pages.new) }
     ensures brings { OnOk result (BringsOnly (P.held pages.old) (P.held pages.new)
         (IsFrontOr page.0)) }
+    ensures owns { OnOk result (OwnsOnly (P.held pages.old) (P.held pages.new) (IsFrontOr page.0)) }
     ensures fails { IfErr result (λ fault. P.fails pages.old fault pages.new) }
     ensures stays { IfErr result (λ fault. P.stays fault
         → BreaksOff (P.held pages.old) (P.held pages.new) (λ list. IsFrontOr page.0)) }
@@ -47,6 +48,7 @@ fn begin_chain<P: Pages>(pages: &mut P, segment: u8, page: PageNo) -> Result<(),
     ensures passes { OnOk result (P.passes pages.old pages.new) }
     ensures brings { OnOk result (BringsOnly (P.held pages.old) (P.held pages.new)
         (IsFrontOr page.0)) }
+    ensures owns { OnOk result (OwnsOnly (P.held pages.old) (P.held pages.new) (IsFrontOr page.0)) }
     ensures fails { IfErr result (λ fault. P.fails pages.old fault pages.new) }
     ensures stays { IfErr result (λ fault. P.stays fault
         → BreaksOff (P.held pages.old) (P.held pages.new) (λ list. IsFrontOr page.0)) }
@@ -73,6 +75,8 @@ fn extend_chain<P: Pages>(
     ensures passes { OnOk result (P.passes pages.old pages.new) }
     ensures brings { OnOk result (BringsOnEach (P.held pages.old) (P.held pages.new)
         (λ list. IsNamedIn list segment)) }
+    ensures owns { OnOk result (OwnsOnEach (P.held pages.old) (P.held pages.new)
+        (λ list. IsNamedIn list segment)) }
     ensures fails { IfErr result (λ fault. P.fails pages.old fault pages.new) }
     ensures stays { IfErr result (λ fault. P.stays fault
         → BreaksOff (P.held pages.old) (P.held pages.new) (λ list. IsWantedIn list segment)) }
@@ -95,6 +99,8 @@ pub fn grow<P: Pages>(pages: &mut P, segment: u8) -> Result<Option<PageNo>, P::F
         (λ page. Grows old new segment page.0))) }
     ensures passes { OnOk result (P.passes pages.old pages.new) }
     ensures brings { OnOk result (BringsOnEach (P.held pages.old) (P.held pages.new)
+        (λ list. IsNamedIn list segment)) }
+    ensures owns { OnOk result (OwnsOnEach (P.held pages.old) (P.held pages.new)
         (λ list. IsNamedIn list segment)) }
     ensures fails { IfErr result (λ fault. P.fails pages.old fault pages.new) }
     ensures stays { IfErr result (λ fault. P.stays fault

@@ -1,7 +1,7 @@
 //! Laws of places and serials, each the contract of a function that does nothing. A caller who needs a law
 //! calls its function.
 
-ghost use Rattle.std.specs.Prelude.{◌≡◌, ◌<◌, ℕ, List};
+ghost use Rattle.std.specs.Prelude.{◌<◌, ℕ, List};
 ghost use Rattle.ostore_base.specs.declared.page.PageImage.{PageImage};
 ghost use Rattle.ostore_page_tags.specs.PageChains.{IsSegment};
 ghost use Rattle.ostore_segments.specs.Room.{IsFull};

@@ -4,7 +4,7 @@ ghost use Rattle.std.specs.Prelude.{◌≡◌, ◌+◌, true, Some, IfOk, MatchR
 ghost use Rattle.ostore_page_tags.specs.declared.layout.TheConstants.{ROW_BYTES};
 ghost use Rattle.ostore_page_tags.specs.PageChains.{IsSegment};
 ghost use Rattle.ostore_page_tags.specs.Allocated.{IsAllocated};
-ghost use Rattle.ostore_segments.specs.Holdings.{Stands, Becomes, BringsOnEach, BreaksOff};
+ghost use Rattle.ostore_segments.specs.Holdings.{Stands, Becomes, BringsOnEach, OwnsOnEach, BreaksOff};
 ghost use Rattle.ostore_segments.specs.Serials.{AreLeft, AreSpent};
 ghost use Rattle.ostore_segments.specs.Room.{IsPlaced};
 ghost use Rattle.ostore_segments.specs.Placing.{FindsNone};
@@ -49,6 +49,8 @@ fn make_on<P: Pages>(
     ensures passes { OnOk result (P.passes pages.old pages.new) }
     ensures brings { OnOk result (BringsOnEach (P.held pages.old) (P.held pages.new)
         (λ list. IsNamedIn list segment)) }
+    ensures owns { OnOk result (OwnsOnEach (P.held pages.old) (P.held pages.new)
+        (λ list. IsNamedIn list segment)) }
     ensures fails { IfErr result (λ fault. P.fails pages.old fault pages.new) }
     ensures stays { IfErr result (λ fault. P.stays fault
         → BreaksOff (P.held pages.old) (P.held pages.new) (λ list. IsNamedIn list segment)) }
@@ -86,6 +88,8 @@ pub fn make<P: Pages>(
         (λ no. (no.segment ≡ segment) × (no.need ≡ size + ROW_BYTES))) }
     ensures passes { OnOk result (P.passes pages.old pages.new) }
     ensures brings { OnOk result (BringsOnEach (P.held pages.old) (P.held pages.new)
+        (λ list. IsNamedIn list segment)) }
+    ensures owns { OnOk result (OwnsOnEach (P.held pages.old) (P.held pages.new)
         (λ list. IsNamedIn list segment)) }
     ensures fails { IfErr result (λ fault. P.fails pages.old fault pages.new) }
     ensures stays { IfErr result (λ fault. P.stays fault

@@ -3,7 +3,7 @@
 ghost use Rattle.std.specs.Prelude.{◌≡◌, ◌<◌, true, OnOk, IfErr, IsSome, length};
 ghost use Rattle.ostore_page_tags.specs.Limits.{most_roots};
 ghost use Rattle.ostore_page_tags.specs.PageLists.{with_bytes};
-ghost use Rattle.ostore_segments.specs.Holdings.{PagesTold, PagesHeld, Stands, Becomes, BringsOnly, Rests};
+ghost use Rattle.ostore_segments.specs.Holdings.{PagesTold, PagesHeld, Stands, Becomes, BringsOnly, OwnsOnly, Rests};
 ghost use Rattle.ostore_segments.specs.Seen.{Shows};
 ghost use Rattle.ostore_segments.specs.Edits.{CanPut, HasPointer, IsRootAsked, stored_or_null, with_pointer_at, with_root};
 
@@ -20,7 +20,8 @@ use ostore_page_tags::layout::ROOTS_PAGE;
 /// calls that were Ok. Code for any holder knows only the laws of these two, so a fault that it answers is one
 /// that the holder answered, after calls that were Ok.
 ///
-/// A call that answers Ok brings no page into view but the one that it is on.
+/// A call that answers Ok brings no page into view but the one that it is on, and owns no page but the one that it
+/// edits: a page is owned once it was claimed for writing.
 pub trait Pages {
     /// Why a page can't be had.
     type Fault;
@@ -51,6 +52,7 @@ pub trait Pages {
         ensures passes { OnOk result (passes self.old self.new) }
         ensures brings { OnOk result (BringsOnly (held self.old) (held self.new)
             (λ named. named ≡ page.0)) }
+        ensures owns { OnOk result (OwnsOnly (held self.old) (held self.new) (λ named. ⊥)) }
         ensures fails { IfErr result (λ fault. fails self.old fault self.new) }
         ensures stays { IfErr result (λ fault. stays fault
             → Rests (held self.old) (held self.new)) }
@@ -71,6 +73,8 @@ pub trait Pages {
         ensures passes { OnOk result (passes self.old self.new) }
         ensures brings { OnOk result (BringsOnly (held self.old) (held self.new)
             (λ named. named ≡ page.0)) }
+        ensures owns { OnOk result (OwnsOnly (held self.old) (held self.new)
+            (λ named. named ≡ page.0)) }
         ensures fails { IfErr result (λ fault. fails self.old fault self.new) }
         ensures stays { IfErr result (λ fault. stays fault
             → Rests (held self.old) (held self.new)) }
@@ -87,6 +91,8 @@ pub trait Pages {
             (λ old new. new ≡ with_pointer_at stored page.0 at old)) }
         ensures passes { OnOk result (passes self.old self.new) }
         ensures brings { OnOk result (BringsOnly (held self.old) (held self.new)
+            (λ named. named ≡ page.0)) }
+        ensures owns { OnOk result (OwnsOnly (held self.old) (held self.new)
             (λ named. named ≡ page.0)) }
         ensures fails { IfErr result (λ fault. fails self.old fault self.new) }
         ensures stays { IfErr result (λ fault. stays fault
@@ -107,6 +113,8 @@ pub trait Pages {
             (λ old new. new ≡ with_root i name.now stored old)) }
         ensures passes { OnOk result (passes self.old self.new) }
         ensures brings { OnOk result (BringsOnly (held self.old) (held self.new)
+            (λ named. named ≡ ROOTS_PAGE)) }
+        ensures owns { OnOk result (OwnsOnly (held self.old) (held self.new)
             (λ named. named ≡ ROOTS_PAGE)) }
         ensures fails { IfErr result (λ fault. fails self.old fault self.new) }
         ensures stays { IfErr result (λ fault. stays fault

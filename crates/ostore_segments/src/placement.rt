@@ -6,7 +6,7 @@ ghost use Rattle.ostore_page_tags.specs.declared.layout.TheConstants.{ROW_BYTES}
 ghost use Rattle.ostore_page_tags.specs.Limits.{largest_cell};
 ghost use Rattle.ostore_page_tags.specs.PageChains.{IsSegment};
 ghost use Rattle.ostore_page_tags.specs.Allocated.{IsAllocated};
-ghost use Rattle.ostore_segments.specs.Holdings.{Stands, Becomes, Sees, BringsOnEach, BreaksOff};
+ghost use Rattle.ostore_segments.specs.Holdings.{Stands, Becomes, Sees, BringsOnEach, OwnsOnly, OwnsOnEach, BreaksOff};
 ghost use Rattle.ostore_segments.specs.Room.{EndsWithRoom, EndsFull, IsFirstWithRoom, LacksRoomAll};
 ghost use Rattle.ostore_segments.specs.Placing.{Places, FindsNone};
 ghost use Rattle.ostore_segments.specs.Naming.{IsNamedIn, IsWantedIn};
@@ -53,6 +53,7 @@ fn last_with_room<P: Pages>(
     ensures passes { OnOk result (P.passes pages.old pages.new) }
     ensures brings { OnOk result (BringsOnEach (P.held pages.old) (P.held pages.new)
         (λ list. IsNamedIn list segment)) }
+    ensures owns { OnOk result (OwnsOnly (P.held pages.old) (P.held pages.new) (λ named. ⊥)) }
     ensures fails { IfErr result (λ fault. P.fails pages.old fault pages.new) }
     ensures stays { IfErr result (λ fault. P.stays fault
         → BreaksOff (P.held pages.old) (P.held pages.new) (λ list. IsNamedIn list segment)) }
@@ -85,6 +86,7 @@ fn first_with_room<P: Pages>(
     ensures passes { OnOk result (P.passes pages.old pages.new) }
     ensures brings { OnOk result (BringsOnEach (P.held pages.old) (P.held pages.new)
         (λ list. IsNamedIn list segment)) }
+    ensures owns { OnOk result (OwnsOnly (P.held pages.old) (P.held pages.new) (λ named. ⊥)) }
     ensures fails { IfErr result (λ fault. P.fails pages.old fault pages.new) }
     ensures stays { IfErr result (λ fault. P.stays fault
         → BreaksOff (P.held pages.old) (P.held pages.new) (λ list. IsNamedIn list segment)) }
@@ -124,6 +126,8 @@ pub fn place<P: Pages>(
         (λ no. (no.segment ≡ segment) × (no.need ≡ size + ROW_BYTES))) }
     ensures passes { OnOk result (P.passes pages.old pages.new) }
     ensures brings { OnOk result (BringsOnEach (P.held pages.old) (P.held pages.new)
+        (λ list. IsNamedIn list segment)) }
+    ensures owns { OnOk result (OwnsOnEach (P.held pages.old) (P.held pages.new)
         (λ list. IsNamedIn list segment)) }
     ensures fails { IfErr result (λ fault. P.fails pages.old fault pages.new) }
     ensures stays { IfErr result (λ fault. P.stays fault

@@ -76,8 +76,7 @@ fn put_bytes(pages: &mut PageList, page: PageNo, at: u16, bytes: &[u8])
 }
 
 impl<'a> Pages for SchemaPages<'a> {
-    ghost use Rattle.std.specs.Prelude.{[], true, ⊤};
-    ghost use Rattle.ostore_schema_layout.specs.Cells.{pointers_of};
+    ghost use Rattle.std.specs.Prelude.{⊤};
     ghost use Rattle.ostore_segments.specs.Holdings.{alone};
     ghost use Rattle.ostore_segments.specs.SchemaCells.{told_of};
 

@@ -3,9 +3,9 @@
 ghost use Rattle.std.specs.Prelude.{◌≡◌, ◌↔◌, true, IsTrue, IfOk, OnOk, IfErr};
 ghost use Rattle.ostore_page_tags.specs.PageChains.{IsSegment};
 ghost use Rattle.ostore_page_tags.specs.Allocated.{IsAllocated};
-ghost use Rattle.ostore_segments.specs.Holdings.{Stands, Becomes, Sees, BringsOnEach, BreaksOff};
+ghost use Rattle.ostore_segments.specs.Holdings.{Stands, Becomes, Sees, BringsOnEach, OwnsOnly, OwnsOnEach, BreaksOff};
 ghost use Rattle.ostore_segments.specs.Serials.{AreSpent, AreLeft, Draws};
-ghost use Rattle.ostore_segments.specs.Naming.{IsNamedIn};
+ghost use Rattle.ostore_segments.specs.Naming.{IsPageOf, IsNamedIn};
 
 use crate::fields::{first_of, header_at, put_number};
 use crate::pages::Pages;
@@ -21,6 +21,7 @@ pub fn serials_spent<P: Pages>(pages: &mut P, segment: u8) -> Result<bool, P::Fa
     ensures passes { OnOk result (P.passes pages.old pages.new) }
     ensures brings { OnOk result (BringsOnEach (P.held pages.old) (P.held pages.new)
         (λ list. IsNamedIn list segment)) }
+    ensures owns { OnOk result (OwnsOnly (P.held pages.old) (P.held pages.new) (λ named. ⊥)) }
     ensures fails { IfErr result (λ fault. P.fails pages.old fault pages.new) }
     ensures stays { IfErr result (λ fault. P.stays fault
         → BreaksOff (P.held pages.old) (P.held pages.new) (λ list. IsNamedIn list segment)) }
@@ -45,6 +46,8 @@ pub fn draw_serial<P: Pages>(pages: &mut P, segment: u8) -> Result<u32, P::Fault
     ensures passes { OnOk result (P.passes pages.old pages.new) }
     ensures brings { OnOk result (BringsOnEach (P.held pages.old) (P.held pages.new)
         (λ list. IsNamedIn list segment)) }
+    ensures owns { OnOk result (OwnsOnEach (P.held pages.old) (P.held pages.new)
+        (λ list. IsPageOf list segment)) }
     ensures fails { IfErr result (λ fault. P.fails pages.old fault pages.new) }
     ensures stays { IfErr result (λ fault. P.stays fault
         → BreaksOff (P.held pages.old) (P.held pages.new) (λ list. IsNamedIn list segment)) }

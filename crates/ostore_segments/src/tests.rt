@@ -1,6 +1,6 @@
 //! Cells placed on fresh lists of pages.
 
-ghost use Rattle.std.specs.Prelude.{◌≡◌, ◌↔◌, ◌≤◌, ◌<◌, ◌+◌, IsTrue, Some, IfOk, OnOk, IfSome};
+ghost use Rattle.std.specs.Prelude.{◌≡◌, ◌↔◌, ◌≤◌, ◌<◌, ◌+◌, IsTrue, Some, OnOk, IfSome};
 ghost use Rattle.ostore_base.specs.declared.page.TheConstants.{PAGE_SIZE};
 ghost use Rattle.ostore_schema_layout.specs.Cells.{pointers_of};
 ghost use Rattle.ostore_schema_layout.specs.Lawful.{IsLawful};

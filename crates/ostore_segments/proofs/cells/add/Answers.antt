@@ -7,6 +7,7 @@ use Rattle.ostore_segments.specs.inside.Fields.{row_of_live}
 use Rattle.ostore_segments.proofs.ListSteps.{Stands-seen, Stands-weaker, Stands-now, Stands-edited, Becomes-weaker, Becomes-changed, Becomes-edit}
 use Rattle.ostore_segments.proofs.AddingLaws.{can_add, room_headed, add_fits, add_edit_one, add_edit_two, add_adds}
 use Rattle.ostore_segments.proofs.ViewLaws.{brings_then, rests_breaks, breaks_then}
+use Rattle.ostore_segments.proofs.OwnLaws.{owns_then, owns_later}
 use Rattle.ostore_segments.proofs.cells.add.Goals as goal
 
 pub header_at-requires : goal.header_at-requires
@@ -85,3 +86,6 @@ pub returns-in_err-edit-2-clause-stays : goal.returns-in_err-edit-2-clause-stays
 returns-in_err-edit-2-clause-stays g c =
     let failed = breaks_then c.in_ok-header.ensures.seen c.in_ok-header.ensures.brings (breaks_then c.in_ok-edit.ensures.lists c.in_ok-edit.ensures.brings (rests_breaks c.in_err-edit-2.ensures.stays)) in
     search rules
+
+pub returns-clause-owns : goal.returns-clause-owns
+returns-clause-owns g c = owns_later c.in_ok-header.ensures.owns (owns_then c.in_ok-edit.ensures.owns c.in_ok-edit-2.ensures.owns)

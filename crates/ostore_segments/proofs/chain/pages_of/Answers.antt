@@ -10,6 +10,7 @@ use Rattle.ostore_segments.proofs.ListSteps.{Stands-seen, Stands-weaker, Becomes
 use Rattle.ostore_segments.proofs.RoomLaws.{list_starts, list_headed, list_goes_on, list_ends, list_long}
 use Rattle.ostore_segments.proofs.ViewLaws.{on_each, brings_on, each_seen, rests_breaks, breaks_seen}
 use Rattle.ostore_segments.proofs.NamingLaws.{listed_named}
+use Rattle.ostore_segments.proofs.OwnLaws.{owns_then}
 use Rattle.ostore_segments.proofs.chain.pages_of.Goals as goal
 
 -- the page at which the walk stands, on each list
@@ -24,6 +25,7 @@ pub loop-walked-init : goal.loop-walked-init
 loop-walked-init g c = record {
   seen = Becomes-shows c.requires.allocated (λ list fine seen. list_starts list c.args.segment c.in-Ok.first _ fine c.requires.segment (ap (λ (pages : List PageNo). map (λ page. page.0) pages) c.new-found.ensures) seen) c.in-Ok.ensures.seen;
   brings = on_each (λ list named front. inl front) c.in-Ok.ensures.brings;
+  owns = c.in-Ok.ensures.owns;
   passes = c.in-Ok.ensures.passes;
   told = c.in-Ok.ensures.told;
 }
@@ -44,6 +46,7 @@ loop-walked-preserved g c = record {
       (ap (λ (pages : List PageNo). map (λ page. page.0) pages) c.in-Ok-push.ensures.ok ∙ map-append (λ (page : PageNo). page.0) c.loop-walked.found _))
       (Becomes-look c.loop-walked.invariant.seen c.in-Ok-header_at.ensures.seen);
   brings = listed c.args.segment _ _ _ c.if-page-eq0.false c.requires.allocated c.loop-walked.invariant.seen c.in-Ok-header_at.ensures.seen c.loop-walked.invariant.brings c.in-Ok-header_at.ensures.brings;
+  owns = owns_then c.loop-walked.invariant.owns c.in-Ok-header_at.ensures.owns;
   passes = g.met.P.Pages.passes_on _ _ _ c.loop-walked.invariant.passes c.in-Ok-header_at.ensures.passes;
   told = c.in-Ok-header_at.ensures.told ∙ c.loop-walked.invariant.told;
 }
@@ -67,3 +70,9 @@ returns-in-Err-clause-stays g c = rests_breaks {N = λ list. IsNamedIn list c.ar
 
 pub returns-in-Err-header_at-clause-stays : goal.returns-in-Err-header_at-clause-stays
 returns-in-Err-header_at-clause-stays g c = breaks_seen {N = λ list. IsNamedIn list c.args.segment} c.loop-walked.invariant.seen c.loop-walked.invariant.brings (rests_breaks c.in-Err-header_at.ensures.stays)
+
+pub returns-then-page-eq0-clause-owns : goal.returns-then-page-eq0-clause-owns
+returns-then-page-eq0-clause-owns g c = c.loop-walked.invariant.owns
+
+pub returns-clause-owns : goal.returns-clause-owns
+returns-clause-owns g c = c.loop-walked.invariant.owns

@@ -3,6 +3,7 @@ use Rattle.std.proofs.lemmas.Result.{on_ok_weaker, IfErr-weaker}
 use Rattle.ostore_segments.proofs.ListSteps.{Stands-weaker, Stands-after, Becomes-after, Becomes-edit, Becomes-stands}
 use Rattle.ostore_segments.proofs.GrowLaws.{begin_edit, begin_edit_last, begin_grows}
 use Rattle.ostore_segments.proofs.ViewLaws.{brings_weaker, brings_then, rests_breaks, breaks_then}
+use Rattle.ostore_segments.proofs.OwnLaws.{owns_weaker, owns_then}
 use Rattle.ostore_segments.proofs.growth.begin_chain.Goals as goal
 
 pub take_free-requires-clause-stands : goal.take_free-requires-clause-stands
@@ -58,3 +59,9 @@ returns-clause-stays g c =
     (λ fault rests. breaks_then c.in_ok-take_free.ensures.lists c.in_ok-take_free.ensures.brings
     (breaks_then c.in_ok-put_number.ensures.lists (brings_weaker (λ named same. inl same) c.in_ok-put_number.ensures.brings) (rests_breaks rests)))
     c.put_number-2.ensures.stays
+
+pub returns-clause-owns : goal.returns-clause-owns
+returns-clause-owns g c =
+    on_ok_weaker c.put_number-2.result
+    (λ last. owns_then (owns_then c.in_ok-take_free.ensures.owns (owns_weaker (λ named same. inl same) c.in_ok-put_number.ensures.owns)) (owns_weaker (λ named same. inr same) last))
+    c.put_number-2.ensures.owns

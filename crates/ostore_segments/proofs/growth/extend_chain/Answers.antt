@@ -8,6 +8,7 @@ use Rattle.ostore_segments.proofs.ListSteps.{Stands-seen, Stands-weaker, Stands-
 use Rattle.ostore_segments.proofs.GrowLaws.{can_extend, beside_headed, extend_edit, extend_edit_last, extend_grows}
 use Rattle.ostore_segments.proofs.ViewLaws.{brings_weaker, brings_then, brings_on, rests_breaks, breaks_weaker, breaks_at_once, breaks_seen, both_ok}
 use Rattle.ostore_segments.proofs.NamingLaws.{AreEnds, ends_seen, ends_named, ends_wanted, grown_wanted}
+use Rattle.ostore_segments.proofs.OwnLaws.{owns_weaker, owns_then, owns_later, owns_on}
 use Rattle.ostore_segments.proofs.growth.extend_chain.Goals as goal
 
 pub header_at-requires : goal.header_at-requires
@@ -102,3 +103,18 @@ returns-clause-stays g c =
     (brings_then (brings_weaker (λ named is. inl (inl is)) c.in_ok-take_free.ensures.brings) (brings_weaker (λ named same. inr same) c.in_ok-put_number.ensures.brings))
     (λ old middle named it taken is. ends_wanted old c.args.segment c.args.page.0 c.args.first.0 c.in_ok-header_at.field-0.last_page named it is) rests))
     c.put_number-2.ensures.stays
+
+pub returns-clause-owns : goal.returns-clause-owns
+returns-clause-owns g c =
+    both_ok c.put_number-2.result
+    (λ last owns. owns_on
+    (Becomes-stands {Q = λ list. (old : List PageImage) × AreEnds old c.args.segment c.args.page.0 c.args.first.0 c.in_ok-header_at.field-0.last_page × Grows old list c.args.segment c.args.page.0}
+    (ends_seen c.args.segment c.args.page.0 c.args.first.0 c.in_ok-header_at.field-0 c.requires.segment c.requires.some c.requires.stands c.in_ok-header_at.ensures.seen)
+    (λ old new ends grows. (old, ends, grows))
+    (Becomes-after (Stands-seen c.requires.stands c.in_ok-header_at.ensures.seen)
+    (λ old middle known taken. extend_grows c.args.segment c.args.page.0 c.args.first.0 c.in_ok-header_at.field-0.last_page old middle (can_extend _ _ _ old c.in_ok-header_at.field-0 c.requires.segment c.requires.some known.0 known.1) taken)
+    c.in_ok-take_free.ensures.lists (Becomes-edit c.in_ok-put_number.ensures.lists last)))
+    (λ list named it is. ends_named it.0 list c.args.segment c.args.page.0 c.args.first.0 c.in_ok-header_at.field-0.last_page named it.1 it.2 is)
+    (owns_later c.in_ok-header_at.ensures.owns
+    (owns_then (owns_then (owns_weaker (λ named is. inl (inl is)) c.in_ok-take_free.ensures.owns) (owns_weaker (λ named same. inr same) c.in_ok-put_number.ensures.owns)) (owns_weaker (λ named same. inl (inr same)) owns))))
+    c.put_number-2.ensures.lists c.put_number-2.ensures.owns

@@ -8,6 +8,7 @@ use Rattle.ostore_segments.proofs.AllocatedLaws.{front_headed}
 use Rattle.ostore_segments.proofs.GrowLaws.{none_free}
 use Rattle.ostore_segments.proofs.ViewLaws.{brings_weaker, brings_then, on_each, brings_on, each_before, rests_breaks, breaks_later, breaks_at_once, breaks_seen}
 use Rattle.ostore_segments.proofs.NamingLaws.{grown_named, grown_wanted}
+use Rattle.ostore_segments.proofs.OwnLaws.{owns_then, owns_later, owns_on, each_owns_none, each_owns_later}
 use Rattle.ostore_segments.proofs.growth.grow.Goals as goal
 
 pub header_at-requires : goal.header_at-requires
@@ -86,3 +87,16 @@ returns-in_err-extend_chain-clause-stays g c =
     (on_each (λ list named front. inl (inl front)) (brings_then c.in_ok-head.ensures.brings c.in_ok-first.ensures.brings))
     c.in_err-extend_chain.ensures.stays in
     search rules
+
+pub returns-then-head-eq0-clause-owns : goal.returns-then-head-eq0-clause-owns
+returns-then-head-eq0-clause-owns g c = each_owns_none c.in_ok-head.ensures.owns
+
+pub returns-then-first-eq0-clause-owns : goal.returns-then-first-eq0-clause-owns
+returns-then-first-eq0-clause-owns g c =
+    owns_on
+    (Becomes-stands {Q = λ list. (old : List PageImage) × Grows old list c.args.segment c.in_ok-head.field-0.next} (Stands-seen (Stands-seen c.requires.allocated c.in_ok-head.ensures.seen) c.in_ok-first.ensures.seen) (λ old new known grown. (old, grown)) c.in_ok-begin_chain.ensures.lists)
+    (λ list named it is. grown_named it.0 list c.args.segment _ named it.1 is)
+    (owns_later (owns_then c.in_ok-head.ensures.owns c.in_ok-first.ensures.owns) c.in_ok-begin_chain.ensures.owns)
+
+pub returns-clause-owns : goal.returns-clause-owns
+returns-clause-owns g c = each_owns_later (owns_then c.in_ok-head.ensures.owns c.in_ok-first.ensures.owns) c.in_ok-extend_chain.ensures.owns

@@ -7,6 +7,7 @@ use Rattle.ostore_segments.proofs.ListSteps.{Stands-seen, Stands-weaker, Stands-
 use Rattle.ostore_segments.proofs.AllocatedLaws.{head_headed}
 use Rattle.ostore_segments.proofs.TakeLaws.{can_take, takes, edit_one, edit_two, edit_three}
 use Rattle.ostore_segments.proofs.ViewLaws.{brings_weaker, brings_then, rests_breaks, breaks_then}
+use Rattle.ostore_segments.proofs.OwnLaws.{owns_weaker, owns_then, owns_later}
 use Rattle.ostore_segments.proofs.growth.take_free.Goals as goal
 
 pub header_at-requires : goal.header_at-requires
@@ -92,3 +93,10 @@ returns-clause-stays g c =
     (breaks_then c.in_ok-put_number.ensures.lists (front c.args.page.0 c.in_ok-put_number.ensures.brings)
     (breaks_then c.in_ok-edit.ensures.lists (read c.args.page.0 c.in_ok-edit.ensures.brings) (rests_breaks rests))))
     c.put_number-2.ensures.stays
+
+pub returns-clause-owns : goal.returns-clause-owns
+returns-clause-owns g c =
+    on_ok_weaker c.put_number-2.result
+    (λ last. owns_later c.in_ok-rest.ensures.owns
+    (owns_then (owns_then (owns_weaker (λ named same. inl same) c.in_ok-put_number.ensures.owns) (owns_weaker (λ named same. inr same) c.in_ok-edit.ensures.owns)) (owns_weaker (λ named same. inr same) last)))
+    c.put_number-2.ensures.owns

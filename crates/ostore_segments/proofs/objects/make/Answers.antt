@@ -7,6 +7,7 @@ use Rattle.ostore_segments.proofs.ListSteps.{Stands-both, Becomes-stands, Become
 use Rattle.ostore_segments.proofs.MakeLaws.{open_placed, placed_is, placed_left, makes}
 use Rattle.ostore_segments.proofs.ViewLaws.{each_then, breaks_later}
 use Rattle.ostore_segments.proofs.NamingLaws.{kept_named, back_placed}
+use Rattle.ostore_segments.proofs.OwnLaws.{each_owns_then}
 use Rattle.ostore_segments.proofs.objects.make.Goals as goal
 
 pub make_on-requires-clause-size : goal.make_on-requires-clause-size
@@ -54,3 +55,13 @@ returns-in_err-make_on-in-Ok-clause-stays g c =
     (λ old middle named fine placed is. back_placed old middle c.args.segment _ c.in-Ok.page.0 named placed is)
     c.in_err-make_on-in-Ok.ensures.stays in
     search rules
+
+pub returns-in_ok-make_on-in-Ok-clause-owns : goal.returns-in_ok-make_on-in-Ok-clause-owns
+returns-in_ok-make_on-in-Ok-clause-owns g c =
+    each_owns_then (Becomes-stands {Q = λ list. List PageImage} c.requires.allocated (λ old new fine placed. old) (open_placed c.args.segment _ c.in_ok-page.field-0 (Ok c.in-Ok.page) c.in-Ok.is c.in_ok-page.ensures.lists))
+    c.in_ok-make_on-in-Ok.ensures.lists
+    (λ old new named known made is. kept_named made.middle new c.args.segment named c.requires.segment made.added.lists (kept_named old made.middle c.args.segment named c.requires.segment made.drawn.lists is))
+    c.in_ok-page.ensures.owns c.in_ok-make_on-in-Ok.ensures.owns
+
+pub returns-in-Err-clause-owns : goal.returns-in-Err-clause-owns
+returns-in-Err-clause-owns g c = c.in_ok-page.ensures.owns

@@ -5,6 +5,7 @@ use Rattle.ostore_segments.proofs.ListSteps.{Stands-weaker, Becomes-stands, Beco
 use Rattle.ostore_segments.proofs.MakeLaws.{drawn_room, draws_and_adds, object_asked, some_serial}
 use Rattle.ostore_segments.proofs.ViewLaws.{brings_on, each_then, breaks_later}
 use Rattle.ostore_segments.proofs.NamingLaws.{placed_named, kept_lists, kept_named, back_named}
+use Rattle.ostore_segments.proofs.OwnLaws.{owns_on, each_owns_weaker, each_owns_then}
 use Rattle.ostore_segments.proofs.objects.make_on.Goals as goal
 
 -- a fault that is handed on
@@ -59,3 +60,14 @@ returns-in_err-offset-clause-stays g c =
     (λ old middle named placed drawn is. back_named old middle c.args.segment named placed.allocated c.requires.segment drawn.lists is)
     (λ old middle named placed drawn same. inr (subst (IsPageOf old c.args.segment) (sym same) (placed_named old c.args.segment _ c.args.page.0 placed)))
     c.in_err-offset.ensures.stays)
+
+pub returns-clause-owns : goal.returns-clause-owns
+returns-clause-owns g c =
+    each_owns_then (Becomes-stands c.requires.placed (λ old new placed drawn. kept_lists old new c.args.segment c.args.page.0 c.requires.segment drawn.lists (placed_named old c.args.segment _ c.args.page.0 placed)) c.in_ok-serial.ensures.lists)
+    c.in_ok-offset.ensures.lists
+    (λ old new named known added is. kept_named old new c.args.segment named c.requires.segment added.1.lists is)
+    (each_owns_weaker (λ list named is. inr is) c.in_ok-serial.ensures.owns)
+    (owns_on
+    (Becomes-stands (Becomes-stands c.requires.placed (λ old new placed drawn. kept_lists old new c.args.segment c.args.page.0 c.requires.segment drawn.lists (placed_named old c.args.segment _ c.args.page.0 placed)) c.in_ok-serial.ensures.lists)
+    (λ old new it added. kept_lists old new c.args.segment c.args.page.0 c.requires.segment added.1.lists it) c.in_ok-offset.ensures.lists)
+    (λ list named it same. inr (subst (IsPageOf list c.args.segment) (sym same) it)) c.in_ok-offset.ensures.owns)

@@ -8,6 +8,7 @@ use Rattle.ostore_segments.proofs.ListSteps.{Stands-seen, Stands-weaker, Becomes
 use Rattle.ostore_segments.proofs.RoomLaws.{has_room, lacks_room, walk_starts, walk_headed, walk_finds, walk_goes_on, walk_ends, walk_long}
 use Rattle.ostore_segments.proofs.ViewLaws.{on_each, brings_on, each_seen, rests_breaks, breaks_seen}
 use Rattle.ostore_segments.proofs.NamingLaws.{walked_named}
+use Rattle.ostore_segments.proofs.OwnLaws.{owns_then}
 use Rattle.ostore_segments.proofs.placement.first_with_room.Goals as goal
 
 -- the page at which the walk stands, on each list
@@ -22,6 +23,7 @@ pub loop-walked-init : goal.loop-walked-init
 loop-walked-init g c = record {
   seen = Becomes-shows c.requires.allocated (λ list fine seen. walk_starts list c.args.segment c.args.need c.in_ok-page.page fine c.requires.segment seen) c.in_ok-page.ensures.seen;
   brings = on_each (λ list named front. inl front) c.in_ok-page.ensures.brings;
+  owns = c.in_ok-page.ensures.owns;
   passes = c.in_ok-page.ensures.passes;
   told = c.in_ok-page.ensures.told;
 }
@@ -49,6 +51,7 @@ loop-walked-preserved g c = record {
       (λ list fine seen. walk_goes_on list c.args.segment c.args.need _ _ c.if-page-eq0.false c.in_ok-header.header seen.0 seen.1 (lacks_room list c.args.need _ c.in_ok-header.header _ seen.1 c.has_room.ensures c.if-has_room.false))
       (Becomes-look c.loop-walked.invariant.seen c.in_ok-header.ensures.seen);
   brings = walked c.args.segment c.args.need _ _ c.if-page-eq0.false c.requires.allocated c.loop-walked.invariant.seen c.in_ok-header.ensures.seen c.loop-walked.invariant.brings c.in_ok-header.ensures.brings;
+  owns = owns_then c.loop-walked.invariant.owns c.in_ok-header.ensures.owns;
   passes = g.met.P.Pages.passes_on _ _ _ c.loop-walked.invariant.passes c.in_ok-header.ensures.passes;
   told = c.in_ok-header.ensures.told ∙ c.loop-walked.invariant.told;
 }
@@ -80,3 +83,12 @@ pub returns-in_err-header-clause-stays : goal.returns-in_err-header-clause-stays
 returns-in_err-header-clause-stays g c =
     let failed = breaks_seen {N = λ list. IsNamedIn list c.args.segment} c.loop-walked.invariant.seen c.loop-walked.invariant.brings (rests_breaks c.in_err-header.ensures.stays) in
     search rules
+
+pub returns-then-page-eq0-clause-owns : goal.returns-then-page-eq0-clause-owns
+returns-then-page-eq0-clause-owns g c = c.loop-walked.invariant.owns
+
+pub returns-then-has_room-clause-owns : goal.returns-then-has_room-clause-owns
+returns-then-has_room-clause-owns g c = owns_then c.loop-walked.invariant.owns c.in_ok-header.ensures.owns
+
+pub returns-clause-owns : goal.returns-clause-owns
+returns-clause-owns g c = c.loop-walked.invariant.owns

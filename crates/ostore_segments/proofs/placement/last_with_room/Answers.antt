@@ -12,6 +12,7 @@ use Rattle.ostore_segments.proofs.AllocatedLaws.{first_headed}
 use Rattle.ostore_segments.proofs.RoomLaws.{has_room, lacks_room, ends_none, last_headed, ends_with, ends_full}
 use Rattle.ostore_segments.proofs.ViewLaws.{brings_weaker, brings_then, on_each, brings_on, rests_breaks, breaks_at_once}
 use Rattle.ostore_segments.proofs.NamingLaws.{first_named, last_named, first_or_front, IsNear, near_named}
+use Rattle.ostore_segments.proofs.OwnLaws.{owns_then}
 use Rattle.ostore_segments.proofs.placement.last_with_room.Goals as goal
 
 pub returns-then-first-eq0-clause-lists : goal.returns-then-first-eq0-clause-lists
@@ -93,3 +94,9 @@ returns-in_err-header-clause-stays g c =
     (λ old middle named fine seen is. first_or_front old named (first_named old c.args.segment c.in_ok-first.first fine c.requires.segment c.if-first-eq0.false seen.1.0) is)
     c.in_err-header.ensures.stays in
     search rules
+
+pub returns-then-has_room-clause-owns : goal.returns-then-has_room-clause-owns
+returns-then-has_room-clause-owns g c = owns_then (owns_then c.in_ok-first.ensures.owns c.in_ok-header_at.ensures.owns) c.in_ok-header.ensures.owns
+
+pub returns-clause-owns : goal.returns-clause-owns
+returns-clause-owns g c = owns_then (owns_then c.in_ok-first.ensures.owns c.in_ok-header_at.ensures.owns) c.in_ok-header.ensures.owns

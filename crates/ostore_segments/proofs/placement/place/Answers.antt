@@ -8,6 +8,7 @@ use Rattle.ostore_segments.proofs.ListSteps.{Stands-seen, Stands-weaker, Becomes
 use Rattle.ostore_segments.proofs.RoomLaws.{open_last, open_first, open_grown, placed_last, placed_grown, placed_early, full_segment}
 use Rattle.ostore_segments.proofs.ViewLaws.{each_weaker, each_then, each_seen, breaks_weaker, breaks_seen}
 use Rattle.ostore_segments.proofs.NamingLaws.{kept_grown_named}
+use Rattle.ostore_segments.proofs.OwnLaws.{owns_then, each_owns_none, each_owns_later, each_owns_looked}
 use Rattle.ostore_segments.proofs.placement.place.Goals as goal
 
 pub returns-in-Some-clause-lists : goal.returns-in-Some-clause-lists
@@ -97,3 +98,17 @@ returns-in_err-page-3-clause-stays g c =
     let failed = breaks_seen {N = λ list. IsWantedIn list c.args.segment} (Becomes-look c.in_ok-page.ensures.lists none) (as_wanted c.args.segment (each_seen none c.in_ok-page.ensures.brings c.in_ok-page-2.ensures.brings))
     (breaks_weaker (Stands-seen (Stands-seen c.requires.allocated c.in_ok-page.ensures.lists) none) (λ list named fine is. inl is) c.in_err-page-3.ensures.stays) in
     search rules
+
+pub returns-in-Some-clause-owns : goal.returns-in-Some-clause-owns
+returns-in-Some-clause-owns g c = each_owns_none c.in_ok-page.ensures.owns
+
+pub returns-in-Some-2-clause-owns : goal.returns-in-Some-2-clause-owns
+returns-in-Some-2-clause-owns g c = each_owns_later c.in_ok-page.ensures.owns c.in_ok-page-2.ensures.owns
+
+pub returns-in-Some-3-clause-owns : goal.returns-in-Some-3-clause-owns
+returns-in-Some-3-clause-owns g c =
+    each_owns_looked c.in_ok-page-3.ensures.lists (each_owns_later c.in_ok-page.ensures.owns c.in_ok-page-2.ensures.owns) c.in_ok-page-3.ensures.owns
+
+pub returns-in-None-3-clause-owns : goal.returns-in-None-3-clause-owns
+returns-in-None-3-clause-owns g c =
+    each_owns_looked c.in_ok-page-3.ensures.lists (each_owns_later c.in_ok-page.ensures.owns c.in_ok-page-2.ensures.owns) c.in_ok-page-3.ensures.owns

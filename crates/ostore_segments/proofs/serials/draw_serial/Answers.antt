@@ -1,4 +1,4 @@
-use Rattle.std.proofs.Common.{◌∙◌, rules, arith, inl, inr}
+use Rattle.std.proofs.Common.{◌∙◌, rules, sym, subst, arith, inl, inr}
 use Rattle.ostore_segments.specs.Naming.{IsPageOf, IsNamedIn}
 use Rattle.ostore_segments.specs.inside.Fields.{IsFrontOr}
 use Rattle.ostore_segments.proofs.ListSteps.{Becomes-stands, Stands-both, Stands-seen, Stands-weaker, Stands-now, Becomes-look, Becomes-changed}
@@ -6,6 +6,7 @@ use Rattle.ostore_segments.proofs.AllocatedLaws.{first_headed}
 use Rattle.ostore_segments.proofs.SerialLaws.{can_draw, draw_fits, draws_next, draw_edit}
 use Rattle.ostore_segments.proofs.ViewLaws.{brings_weaker, brings_then, brings_on, rests_breaks, breaks_at_once}
 use Rattle.ostore_segments.proofs.NamingLaws.{first_named, first_or_front, kept_lists}
+use Rattle.ostore_segments.proofs.OwnLaws.{owns_then, owns_later, owns_on}
 use Rattle.ostore_segments.proofs.serials.draw_serial.Goals as goal
 
 pub header_at-requires : goal.header_at-requires
@@ -64,3 +65,14 @@ returns-in_err-put_number-clause-stays g c =
     (λ old middle named known seen is. first_or_front old named (first_named old c.args.segment c.in_ok-first_of.field-0 known.0 c.requires.segment (λ none. known.1.some (seen.1.0 ∙ none)) seen.1.0) is)
     c.in_err-put_number.ensures.stays in
     search rules
+
+pub returns-clause-owns : goal.returns-clause-owns
+returns-clause-owns g c =
+    owns_on
+    (Becomes-stands {Q = λ list. IsPageOf list c.args.segment c.in_ok-first_of.field-0} (Stands-seen (Stands-both c.requires.allocated c.requires.left) (Becomes-look c.in_ok-first_of.ensures.seen c.in_ok-serial.ensures.seen))
+    (λ old new known written. let drawn = draws_next old new c.args.segment c.in_ok-first_of.field-0 c.in_ok-serial.field-0 (can_draw _ _ _ old c.requires.segment known.0.0 known.0.1 known.1.0 known.1.1) written in
+    kept_lists old new c.args.segment c.in_ok-first_of.field-0 c.requires.segment drawn.lists
+    (first_named old c.args.segment c.in_ok-first_of.field-0 known.0.0 c.requires.segment (λ none. known.0.1.some (known.1.0 ∙ none)) known.1.0))
+    c.in_ok-put_number.ensures.lists)
+    (λ list named it same. subst (IsPageOf list c.args.segment) (sym same) it)
+    (owns_later (owns_then c.in_ok-first_of.ensures.owns c.in_ok-serial.ensures.owns) c.in_ok-put_number.ensures.owns)

@@ -6,6 +6,7 @@ use Rattle.ostore_segments.proofs.AllocatedLaws.{first_headed}
 use Rattle.ostore_segments.proofs.SerialLaws.{spent_by, none_spent}
 use Rattle.ostore_segments.proofs.ViewLaws.{brings_weaker, brings_then, on_each, brings_on, rests_breaks, breaks_at_once}
 use Rattle.ostore_segments.proofs.NamingLaws.{first_named, first_or_front}
+use Rattle.ostore_segments.proofs.OwnLaws.{owns_then}
 use Rattle.ostore_segments.proofs.serials.serials_spent.Goals as goal
 
 pub returns-then-first-eq0-clause-lists : goal.returns-then-first-eq0-clause-lists
@@ -47,3 +48,6 @@ pub returns-in_err-header_at-clause-stays : goal.returns-in_err-header_at-clause
 returns-in_err-header_at-clause-stays g c =
     let failed = breaks_at_once {N = λ list. IsNamedIn list c.args.segment} c.requires.allocated c.in_ok-first.ensures.seen c.in_ok-first.ensures.brings (λ old middle named fine seen front. inl front) c.in_err-header_at.ensures.stays in
     search rules
+
+pub returns-clause-owns : goal.returns-clause-owns
+returns-clause-owns g c = owns_then c.in_ok-first.ensures.owns c.in_ok-header_at.ensures.owns

@@ -3,6 +3,7 @@ use Rattle.ostore_segments.proofs.ListSteps.{alone_becomes, alone_stands}
 use Rattle.ostore_segments.proofs.PutLaws.{edited_length}
 use Rattle.ostore_segments.proofs.CellPlaceLaws.{in_page}
 use Rattle.ostore_segments.proofs.ViewLaws.{alone_brings}
+use Rattle.ostore_segments.proofs.OwnLaws.{alone_owns}
 use Rattle.ostore_segments.proofs.schema_pages.SchemaPagesCellPages.edit_cell.Goals as goal
 
 pub put_bytes-requires-clause-there : goal.put_bytes-requires-clause-there
@@ -21,3 +22,6 @@ overflow_add-offset c =
 
 pub returns-clause-brings : goal.returns-clause-brings
 returns-clause-brings c = alone_brings c.args.self.now.pages _ (ap (λ list. length list) c.put_bytes.ensures ∙ edited_length c.args.self.now.pages c.args.page.0 (c.args.offset + c.args.at) c.args.bytes.now)
+
+pub returns-clause-owns : goal.returns-clause-owns
+returns-clause-owns c = alone_owns c.args.self.now.pages _ (ap (λ list. length list) c.put_bytes.ensures ∙ edited_length c.args.self.now.pages c.args.page.0 (c.args.offset + c.args.at) c.args.bytes.now)
