@@ -1,4 +1,4 @@
--- The pages that commands bring into view.
+-- The pages that commands bring into view, and those that they own.
 use Rattle.std.proofs.Common.{◌≡◌, ◌+◌, ◌*◌, ℕ, Bool, true, List, [], length, Some, sym, ap, subst, arith, ◌∙◌, inl, inr}
 use Rattle.std.specs.List.{slice_get}
 use Rattle.std.proofs.lemmas.List.Elements.{All-contains}
@@ -8,17 +8,18 @@ use Rattle.ostore_page_tags.specs.PageChains.{IsSegment}
 use Rattle.ostore_page_tags.specs.Allocated.{IsAllocated}
 use Rattle.ostore_page_tags.proofs.allocation.ChainLaws.{chain_owned}
 use Rattle.ostore_schema_layout.specs.declared.schema.Schema.{Schema}
-use Rattle.ostore_segments.specs.Holdings.{PagesHeld, Stands, Becomes, BringsOnly, BringsOnEach, BreaksOff}
+use Rattle.ostore_segments.specs.Holdings.{PagesHeld, Stands, Becomes, BringsOnly, BringsOnEach, OwnsOnEach, BreaksOff}
 use Rattle.ostore_segments.specs.Naming.{IsPageOf, IsNamedIn, IsWantedIn}
 use Rattle.ostore_segments.specs.Placing.{Places, last, grown, early}
 use Rattle.ostore_segments.specs.Making.{Makes}
 use Rattle.ostore_segments.proofs.NamingLaws.{kept_made}
+use Rattle.ostore_segments.proofs.OwnLaws.{each_owns_weaker}
 use Rattle.ostore_graph_model.specs.declared.values.Reply.{Reply}
 use Rattle.ostore_graph_model.specs.declared.commands.Command.{Command}
 use Rattle.ostore_graph_model.specs.declared.commands.Command.TheVariants as commands
 use Rattle.ostore_graph_model.specs.declared.commands.Txn.{Txn}
 use Rattle.ostore_object_ops.specs.Means.{Leads, HasMeaning}
-use Rattle.ostore_object_ops.specs.Claiming.{IsObjectPage, IsUsedBy, IsUsedByLine, IsWantedBy, IsWantedByLine, IsDataPage, KeepsDataPages, IsLinePage, IsTriedPage, SeesLinePages, BreaksLine}
+use Rattle.ostore_object_ops.specs.Claiming.{IsObjectPage, IsUsedBy, IsUsedByLine, IsOwnedBy, IsOwnedByLine, IsWantedBy, IsWantedByLine, IsDataPage, KeepsDataPages, IsLinePage, IsTriedPage, SeesLinePages, BreaksLine}
 use Rattle.ostore_object_ops.specs.Executes.{Executes}
 use Rattle.ostore_object_ops.proofs.CellPlaces.{cell_on}
 use Rattle.ostore_object_ops.proofs.MemberFacts.{leads_to}
@@ -161,6 +162,9 @@ line_brings txn replies command leads next brings = record {
     ];
   };
 }
+
+pub line_owns : {a b : PagesHeld} (txn : Txn) (replies : List Reply) (command : Command) (leads : Leads) → slice_get txn.commands (length replies) ≡ Some command → OwnsOnEach a b (IsOwnedBy txn.update command leads) → OwnsOnEach a b (IsOwnedByLine txn replies leads)
+line_owns txn replies command leads next one = each_owns_weaker (λ list page written. (command, next, written)) one
 
 -- and of one that was broken off
 pub line_wants : {a b : PagesHeld} (txn : Txn) (replies : List Reply) (command : Command) (leads : Leads) → slice_get txn.commands (length replies) ≡ Some command → BreaksOff a b (IsWantedBy txn.update command leads) → BreaksOff a b (IsWantedByLine txn replies leads)

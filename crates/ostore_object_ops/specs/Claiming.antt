@@ -1,4 +1,4 @@
--- Which pages commands bring into view.
+-- Which pages commands bring into view, and which they own.
 use Rattle.std.specs.Prelude.{◌≡◌, ◌≢◌, ◌⊎◌, ℕ, ◌+◌, ◌*◌, ◌<◌, Bool, true, List, length, Some}
 use Rattle.std.specs.List.{AllPairs, Contains, slice_get}
 use Rattle.ostore_base.specs.declared.page.PageImage.{PageImage}
@@ -7,7 +7,7 @@ use Rattle.ostore_page_tags.specs.declared.layout.TheConstants.{OBJECTS_KIND, FR
 use Rattle.ostore_page_tags.specs.PageLists.{header_at}
 use Rattle.ostore_page_tags.specs.PageChains.{IsOpen}
 use Rattle.ostore_page_tags.specs.Allocated.{HasFree}
-use Rattle.ostore_segments.specs.Holdings.{PagesHeld, Becomes, BringsOnEach, BreaksOff}
+use Rattle.ostore_segments.specs.Holdings.{PagesHeld, Becomes, BringsOnEach, OwnsOnEach, BreaksOff}
 use Rattle.ostore_segments.specs.Naming.{IsNamedIn, IsFirstFree, IsWantedIn}
 use Rattle.ostore_graph_model.specs.declared.values.Reply.{Reply}
 use Rattle.ostore_graph_model.specs.declared.commands.Command.{Command}
@@ -34,6 +34,13 @@ IsUsedBy update (commands.Get object member) leads list page = IsObjectPage lead
 IsUsedBy update (commands.Set object member value) leads list page = IsObjectPage leads object page
 IsUsedBy update other leads list page = ⊥
 
+-- What a command that was executed may own: in an update `new` page 0 and pages of its segment, and `set` the object's
+-- page. `get` owns none, and in a read nothing does.
+abbrev pub IsOwnedBy : Bool → Command → Leads → List PageImage → ℕ → Type 0
+IsOwnedBy update (commands.New to ty segment) leads list page = (update ≡ true) × IsNamedIn list segment page
+IsOwnedBy update (commands.Set object member value) leads list page = (update ≡ true) × IsObjectPage leads object page
+IsOwnedBy update other leads list page = ⊥
+
 -- what one that was broken off may use: `new` also the head of the free list, which its segment was to get
 abbrev pub IsWantedBy : Bool → Command → Leads → List PageImage → ℕ → Type 0
 IsWantedBy update (commands.New to ty segment) leads list page = (update ≡ true) × IsWantedIn list segment page
@@ -48,6 +55,12 @@ abbrev pub IsUsedByLine : Txn → List Reply → Leads → List PageImage → �
 IsUsedByLine txn replies leads list page =
     (command : Command) × (slice_get txn.commands (length replies) ≡ Some command) × IsUsedBy txn.update command leads list page
 
+-- what it may own there
+abbrev pub IsOwnedByLine : Txn → List Reply → Leads → List PageImage → ℕ → Type 0
+IsOwnedByLine txn replies leads list page =
+    (command : Command) × (slice_get txn.commands (length replies) ≡ Some command)
+    × IsOwnedBy txn.update command leads list page
+
 -- what it may use where it was broken off
 abbrev pub IsWantedByLine : Txn → List Reply → Leads → List PageImage → ℕ → Type 0
 IsWantedByLine txn replies leads list page =
@@ -56,6 +69,11 @@ IsWantedByLine txn replies leads list page =
 -- each page in view behind the line was so before, or is one that its command uses
 abbrev pub BringsUsed : Txn → Progress → PagesHeld → PagesHeld → Type 0
 BringsUsed txn progress before after = BringsOnEach before after (IsUsedByLine txn (replies_of progress) (leads_by before progress))
+
+-- each page that is owned behind the line was so before, or is one that its command writes
+abbrev pub OwnsWritten : Txn → Progress → PagesHeld → PagesHeld → Type 0
+OwnsWritten txn progress before after =
+    OwnsOnEach before after (IsOwnedByLine txn (replies_of progress) (leads_by before progress))
 
 -- the line was broken off, and each page in view was so before, or is one that its command may have used
 abbrev pub BringsWanted : Txn → Progress → PagesHeld → PagesHeld → Type 0

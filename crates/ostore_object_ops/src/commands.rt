@@ -1,12 +1,12 @@
 //! One command.
 
 ghost use Rattle.std.specs.Prelude.{◌≡◌, ⊤, IfOk, OnOk, IfErr, OnErr};
-ghost use Rattle.ostore_segments.specs.Holdings.{Stands, Becomes, Sees, BringsOnly, BringsOnEach, BreaksOff};
+ghost use Rattle.ostore_segments.specs.Holdings.{Stands, Becomes, Sees, BringsOnly, BringsOnEach, OwnsOnEach, BreaksOff};
 ghost use Rattle.ostore_object_ops.specs.Bound.{leads_of, SameBound};
 ghost use Rattle.ostore_object_ops.specs.Means.{HasMeaning};
 ghost use Rattle.ostore_object_ops.specs.Suits.{Suits, MayUpdate, IsBuilt};
 ghost use Rattle.ostore_graph_model.specs.Valid.{IsValid};
-ghost use Rattle.ostore_object_ops.specs.Claiming.{IsObjectPage, IsUsedBy, IsWantedBy};
+ghost use Rattle.ostore_object_ops.specs.Claiming.{IsObjectPage, IsUsedBy, IsOwnedBy, IsWantedBy};
 ghost use Rattle.ostore_object_ops.specs.Executes.{Executes, LacksSpace};
 ghost use Rattle.ostore_object_ops.specs.Stops.{IfNoSpace, IfOutOfMemory, Stopped};
 
@@ -41,6 +41,9 @@ fn run_set<P: CellPages>(
     ensures passes { OnOk result (P.passes pages.old pages.new) }
     ensures brings { OnOk result (BringsOnly (P.held pages.old) (P.held pages.new)
         (IsObjectPage (leads_of (P.held pages.old) vars.now) object.now)) }
+    ensures owns { let command = Command.Set object.now member.now value.now in
+        OnOk result (OwnsOnEach (P.held pages.old) (P.held pages.new)
+        (IsOwnedBy update command (leads_of (P.held pages.old) vars.now))) }
     ensures fails { IfErr result (λ fault. P.fails pages.old fault pages.new) }
     ensures stays { let named = IsObjectPage (leads_of (P.held pages.old) vars.now) object.now in
         IfErr result (λ fault. P.stays fault
@@ -88,6 +91,8 @@ where
     ensures passes { OnOk result (P.passes pages.old pages.new) }
     ensures brings { OnOk result (BringsOnEach (P.held pages.old) (P.held pages.new)
         (IsUsedBy update command.now (leads_of (P.held pages.old) vars.old))) }
+    ensures owns { OnOk result (OwnsOnEach (P.held pages.old) (P.held pages.new)
+        (IsOwnedBy update command.now (leads_of (P.held pages.old) vars.old))) }
     ensures stops { IfErr result (λ stop. Stopped stop
         (λ fault. P.fails pages.old fault pages.new) (P.passes pages.old pages.new)) }
     ensures stays { IfErr result (λ stop. Stopped stop (λ fault. P.stays fault

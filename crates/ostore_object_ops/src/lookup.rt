@@ -1,8 +1,8 @@
 //! The member of an object that the names of a command mean.
 
-ghost use Rattle.std.specs.Prelude.{◌≡◌, ◌%◌, false, IfOk, OnOk, IfErr, MatchResult};
+ghost use Rattle.std.specs.Prelude.{◌≡◌, ◌%◌, IfOk, OnOk, IfErr, MatchResult};
 ghost use Rattle.ostore_base.specs.declared.page.TheConstants.{PAGE_SIZE};
-ghost use Rattle.ostore_segments.specs.Holdings.{Stands, Becomes, Sees, BringsOnly, Rests};
+ghost use Rattle.ostore_segments.specs.Holdings.{Stands, Becomes, Sees, BringsOnly, OwnsOnly, Rests};
 ghost use Rattle.ostore_object_ops.specs.Bound.{leads_of};
 ghost use Rattle.ostore_object_ops.specs.Means.{HasMeaning};
 ghost use Rattle.ostore_object_ops.specs.Suits.{Suits};
@@ -52,9 +52,12 @@ pub(crate) fn find_place<P: CellPages>(
         (λ refusal. RefusesMember schema.now leads variable.now member.now refusal list)))) }
     ensures view { IfOk result (λ found.
         IfOk found (λ found. (P.held pages.new).in_view found.page.0)) }
+    ensures object { let leads = leads_of (P.held pages.old) vars.now in
+        IfOk result (λ found. IfOk found (λ found. IsObjectPage leads variable.now found.page.0)) }
     ensures passes { OnOk result (P.passes pages.old pages.new) }
     ensures brings { OnOk result (BringsOnly (P.held pages.old) (P.held pages.new)
         (IsObjectPage (leads_of (P.held pages.old) vars.now) variable.now)) }
+    ensures owns { OnOk result (OwnsOnly (P.held pages.old) (P.held pages.new) (λ named. ⊥)) }
     ensures fails { IfErr result (λ fault. P.fails pages.old fault pages.new) }
     ensures stays { IfErr result (λ fault. P.stays fault
         → Rests (P.held pages.old) (P.held pages.new)) }

@@ -8,7 +8,7 @@ ghost use Rattle.ostore_page_tags.specs.Limits.{most_pages};
 ghost use Rattle.ostore_page_tags.specs.PageChains.{IsSegment};
 ghost use Rattle.ostore_page_tags.specs.Allocated.{IsAllocated};
 ghost use Rattle.ostore_schema_layout.specs.Cells.{IsType, code_size};
-ghost use Rattle.ostore_segments.specs.Holdings.{Stands, Becomes, Sees, BringsOnEach, BreaksOff};
+ghost use Rattle.ostore_segments.specs.Holdings.{Stands, Becomes, Sees, BringsOnEach, OwnsOnEach, BreaksOff};
 ghost use Rattle.ostore_segments.specs.Serials.{AreSpent};
 ghost use Rattle.ostore_segments.specs.Placing.{FindsNone};
 ghost use Rattle.ostore_segments.specs.Naming.{IsNamedIn, IsWantedIn};
@@ -17,7 +17,7 @@ ghost use Rattle.ostore_object_ops.specs.Bound.{leads_of, SameBound};
 ghost use Rattle.ostore_object_ops.specs.Means.{HasMeaning};
 ghost use Rattle.ostore_object_ops.specs.Suits.{Suits};
 ghost use Rattle.ostore_graph_model.specs.Valid.{IsValid};
-ghost use Rattle.ostore_object_ops.specs.Claiming.{IsUsedBy, IsWantedBy};
+ghost use Rattle.ostore_object_ops.specs.Claiming.{IsUsedBy, IsOwnedBy, IsWantedBy};
 ghost use Rattle.ostore_object_ops.specs.Executes.{Executes, LacksSpace};
 ghost use Rattle.ostore_object_ops.specs.Stops.{IfNoSpace, IfOutOfMemory, Stopped};
 
@@ -55,6 +55,8 @@ fn make_cell<P: CellPages>(
         (λ cell. (P.held pages.new).in_view cell.page.0)) }
     ensures passes { OnOk result (P.passes pages.old pages.new) }
     ensures brings { OnOk result (BringsOnEach (P.held pages.old) (P.held pages.new)
+        (λ list. IsNamedIn list segment)) }
+    ensures owns { OnOk result (OwnsOnEach (P.held pages.old) (P.held pages.new)
         (λ list. IsNamedIn list segment)) }
     ensures fails { IfErr result (λ fault. P.fails pages.old fault pages.new) }
     ensures stays { IfErr result (λ fault. P.stays fault
@@ -97,6 +99,9 @@ where
     ensures brings { let command = commands.New to.now ty.now segment in
         OnOk result (BringsOnEach (P.held pages.old) (P.held pages.new)
         (IsUsedBy true command (leads_of (P.held pages.old) vars.old))) }
+    ensures owns { let command = commands.New to.now ty.now segment in
+        OnOk result (OwnsOnEach (P.held pages.old) (P.held pages.new)
+        (IsOwnedBy true command (leads_of (P.held pages.old) vars.old))) }
     ensures stops { IfErr result (λ stop. Stopped stop
         (λ fault. P.fails pages.old fault pages.new) (P.passes pages.old pages.new)) }
     ensures stays { let command = commands.New to.now ty.now segment in

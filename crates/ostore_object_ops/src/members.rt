@@ -1,11 +1,11 @@
 //! `get`, and `set` to an int.
 
-ghost use Rattle.std.specs.Prelude.{◌≡◌, ℕ, List, Bool, false, true, IfOk, OnOk, IfErr};
+ghost use Rattle.std.specs.Prelude.{◌≡◌, List, Bool, true, IfOk, OnOk, IfErr};
 ghost use Rattle.ostore_base.specs.declared.page.PageImage.{PageImage};
 ghost use Rattle.ostore_graph_model.specs.declared.commands.Command.TheVariants as commands;
 ghost use Rattle.ostore_graph_model.specs.declared.commands.Operand.TheVariants as operands;
 ghost use Rattle.ostore_schema_layout.specs.declared.schema.MemberKind.TheVariants as kinds;
-ghost use Rattle.ostore_segments.specs.Holdings.{Stands, Becomes, BringsOnly, Rests, BreaksOff};
+ghost use Rattle.ostore_segments.specs.Holdings.{Stands, Becomes, BringsOnly, OwnsOnly, Rests, BreaksOff};
 ghost use Rattle.ostore_object_ops.specs.Bound.{leads_of};
 ghost use Rattle.ostore_object_ops.specs.Means.{HasMeaning};
 ghost use Rattle.ostore_object_ops.specs.Suits.{Suits};
@@ -47,6 +47,8 @@ fn store_int<P: CellPages>(
     ensures passes { OnOk result (P.passes pages.old pages.new) }
     ensures brings { OnOk result (BringsOnly (P.held pages.old) (P.held pages.new)
         (λ named. named ≡ found.page.0)) }
+    ensures owns { OnOk result (OwnsOnly (P.held pages.old) (P.held pages.new)
+        (λ named. named ≡ found.page.0)) }
     ensures fails { IfErr result (λ fault. P.fails pages.old fault pages.new) }
     ensures stays { IfErr result (λ fault. P.stays fault
         → Rests (P.held pages.old) (P.held pages.new)) }
@@ -79,6 +81,7 @@ pub(crate) fn run_get<P: CellPages>(
     ensures passes { OnOk result (P.passes pages.old pages.new) }
     ensures brings { OnOk result (BringsOnly (P.held pages.old) (P.held pages.new)
         (IsObjectPage (leads_of (P.held pages.old) vars.now) object.now)) }
+    ensures owns { OnOk result (OwnsOnly (P.held pages.old) (P.held pages.new) (λ named. ⊥)) }
     ensures fails { IfErr result (λ fault. P.fails pages.old fault pages.new) }
     ensures stays { IfErr result (λ fault. P.stays fault
         → Rests (P.held pages.old) (P.held pages.new)) }
@@ -110,6 +113,8 @@ pub(crate) fn run_set_int<P: CellPages>(
         (leads_of (P.held pages.old) vars.now) (leads_of (P.held pages.new) vars.now))) }
     ensures passes { OnOk result (P.passes pages.old pages.new) }
     ensures brings { OnOk result (BringsOnly (P.held pages.old) (P.held pages.new)
+        (IsObjectPage (leads_of (P.held pages.old) vars.now) object.now)) }
+    ensures owns { OnOk result (OwnsOnly (P.held pages.old) (P.held pages.new)
         (IsObjectPage (leads_of (P.held pages.old) vars.now) object.now)) }
     ensures fails { IfErr result (λ fault. P.fails pages.old fault pages.new) }
     ensures stays { let named = IsObjectPage (leads_of (P.held pages.old) vars.now) object.now in

@@ -8,7 +8,7 @@ ghost use Rattle.ostore_object_ops.specs.Progresses.{replies_of, leads_by};
 ghost use Rattle.ostore_object_ops.specs.Means.{HasMeaning};
 ghost use Rattle.ostore_object_ops.specs.Suits.{Suits, MayUpdate, IsBuilt};
 ghost use Rattle.ostore_object_ops.specs.Stops.{IfNoSpace, IfOutOfMemory, Stopped};
-ghost use Rattle.ostore_object_ops.specs.Claiming.{SeesLinePages, BreaksLine, BringsUsed, BringsWanted, HasFewInView};
+ghost use Rattle.ostore_object_ops.specs.Claiming.{SeesLinePages, BreaksLine, BringsUsed, OwnsWritten, BringsWanted, HasFewInView};
 ghost use Rattle.ostore_object_ops.specs.Lines.{RunsLine, LacksLine, Transacts, LacksGrowth};
 
 use crate::commands::run_command;
@@ -21,8 +21,8 @@ use std::alloc::Global;
 
 /// Executes the next line of a transaction, whose commands are of those that run, and adds its reply to the
 /// progress. It stops as [`run_command`] does, and the replies then stay. A line that was executed brings into view
-/// only the pages that its command uses, and one that was broken off by a fault that leaves all as it was only those
-/// that the command wanted.
+/// only the pages that its command uses, and owns only those that it writes: `get` none, `set` the object's page. One
+/// that was broken off by a fault that leaves all as it was brings into view only those that the command wanted.
 pub fn run_line<P: CellPages>(
     pages: &mut P,
     schema: &Schema,
@@ -55,6 +55,8 @@ where
         (λ old new. IsValid schema.now new))) }
     ensures told { P.told pages.new ≡ P.told pages.old }
     ensures brings { OnOk result (BringsUsed txn.now progress.old (P.held pages.old)
+        (P.held pages.new)) }
+    ensures owns { OnOk result (OwnsWritten txn.now progress.old (P.held pages.old)
         (P.held pages.new)) }
     ensures wants { IfErr result (λ stop. Stopped stop (λ fault. P.stays fault
         → BringsWanted txn.now progress.old (P.held pages.old) (P.held pages.new)) ⊤) }

@@ -1,6 +1,6 @@
 //! Which schemas and commands run.
 
-ghost use Rattle.std.specs.Prelude.{◌≡◌, ◌↔◌, IsTrue};
+ghost use Rattle.std.specs.Prelude.{◌↔◌, IsTrue};
 ghost use Rattle.std.specs.List.{AllByRecursion};
 ghost use Rattle.ostore_object_ops.specs.Suits.{AreInts, IsOfInts, IsBuilt};
 

@@ -2,15 +2,16 @@ use Rattle.std.proofs.Common.{Bool, true, false, OnOk, IfErr, ap, sym, subst}
 use Rattle.std.specs.Prelude.{⊤}
 use Rattle.ostore_graph_model.specs.declared.commands.Command.{Command}
 use Rattle.ostore_graph_model.specs.Step.{step}
-use Rattle.ostore_segments.specs.Holdings.{Becomes, BringsOnEach, BreaksOff}
+use Rattle.ostore_segments.specs.Holdings.{Becomes, BringsOnEach, OwnsOnEach, BreaksOff}
 use Rattle.ostore_object_ops.specs.Bound.{bound_by, leads_of}
-use Rattle.ostore_object_ops.specs.Claiming.{IsUsedBy, IsWantedBy}
+use Rattle.ostore_object_ops.specs.Claiming.{IsUsedBy, IsOwnedBy, IsWantedBy}
 use Rattle.ostore_object_ops.specs.Executes.{Executes}
 use Rattle.ostore_object_ops.specs.Stops.{Stopped}
 use Rattle.ostore_object_ops.proofs.CommandFacts.{read_only}
 use Rattle.ostore_object_ops.proofs.LeadFacts.{leads_kept}
 use Rattle.ostore_object_ops.proofs.StepFacts.{Becomes-stay, homes_stay}
 use Rattle.ostore_segments.proofs.ViewLaws.{brings_nothing, on_each, rests_breaks, breaks_weaker}
+use Rattle.ostore_segments.proofs.OwnLaws.{owns_nothing, each_owns_none}
 use Rattle.ostore_object_ops.proofs.commands.run_command.Goals as goal
 
 pub returns-else-update-clause-lists : goal.returns-else-update-clause-lists
@@ -63,3 +64,21 @@ pub returns-in-Err-run_set-clause-stays : goal.returns-in-Err-run_set-clause-sta
 returns-in-Err-run_set-clause-stays g c =
     let before = leads_of (g.P.Pages.held c.args.pages.now) c.args.vars.now in
     breaks_weaker {N = IsWantedBy c.args.update c.args.command.now before} c.requires.stands (λ list page known is. subst (λ (command : Command). IsWantedBy c.args.update command before list page) (sym c.in-Set.is) is) c.in-Err-run_set.ensures.stays
+
+pub returns-else-update-clause-owns : goal.returns-else-update-clause-owns
+returns-else-update-clause-owns g c = each_owns_none owns_nothing
+
+pub returns-then-update-clause-owns : goal.returns-then-update-clause-owns
+returns-then-update-clause-owns g c =
+    let before = leads_of (g.P.Pages.held c.args.pages.now) c.args.vars.now in
+    subst (λ (update : Bool). OnOk c.run_new.result (OwnsOnEach (g.P.Pages.held c.args.pages.now) (g.P.Pages.held c.run_new.new.pages) (IsOwnedBy update c.args.command.now before))) (sym c.if-update.true)
+    (subst (λ (command : Command). OnOk c.run_new.result (OwnsOnEach (g.P.Pages.held c.args.pages.now) (g.P.Pages.held c.run_new.new.pages) (IsOwnedBy true command before))) (sym c.in-New.is)
+    c.run_new.ensures.owns)
+
+pub returns-in-Ok-clause-owns : goal.returns-in-Ok-clause-owns
+returns-in-Ok-clause-owns g c = each_owns_none c.in-Ok.ensures.owns
+
+pub returns-in-Ok-run_set-clause-owns : goal.returns-in-Ok-run_set-clause-owns
+returns-in-Ok-run_set-clause-owns g c =
+    let before = leads_of (g.P.Pages.held c.args.pages.now) c.args.vars.now in
+    subst (λ (command : Command). OwnsOnEach (g.P.Pages.held c.args.pages.now) (g.P.Pages.held c.run_set.new.pages) (IsOwnedBy c.args.update command before)) (sym c.in-Set.is) c.in-Ok-run_set.ensures.owns

@@ -10,6 +10,7 @@ use Rattle.ostore_object_ops.proofs.MemberFacts.{refuses_unbound, page_there, re
 use Rattle.ostore_object_ops.proofs.FindFacts.{sees, row_seen, row_found, some_of, has_place}
 use Rattle.ostore_object_ops.proofs.StepFacts.{Becomes-stay, not_true, not_false}
 use Rattle.ostore_segments.proofs.ViewLaws.{brings_nothing, brings_weaker}
+use Rattle.ostore_segments.proofs.OwnLaws.{owns_nothing}
 use Rattle.ostore_object_ops.proofs.lookup.find_place.Goals as goal
 
 pub returns-in_default-clause-lists : goal.returns-in_default-clause-lists
@@ -133,3 +134,14 @@ returns-clause-brings g c =
     let at : leads c.args.variable.now ≡ Some (Some (c.page_at-page.result.0 * 4096 + c.offset_of-offset.result)) =
     ap (option_map (g.P.Pages.held c.args.pages.now).home) (sym c.in-Some.ensures) ∙ ap (λ (h : Option ℕ). Some h) c.page_at-page.ensures ∙ ap (λ (o : ℕ). Some (Some (c.page_at-page.result.0 * 4096 + o))) (sym c.offset_of-offset.ensures) in
     brings_weaker (λ named same. subst (IsObjectPage leads c.args.variable.now) (sym same) (c.offset_of-offset.result, low, at)) c.in_ok-enter.ensures.brings
+
+pub returns-in_default-clause-owns : goal.returns-in_default-clause-owns
+returns-in_default-clause-owns g c = owns_nothing
+
+pub returns-clause-object : goal.returns-clause-object
+returns-clause-object g c =
+    let leads = leads_of (g.P.Pages.held c.args.pages.now) c.args.vars.now in
+    let low : c.offset_of-offset.result < 4096 = let is = c.offset_of-offset.ensures in omega arith in
+    let at : leads c.args.variable.now ≡ Some (Some (c.page_at-page.result.0 * 4096 + c.offset_of-offset.result)) =
+    ap (option_map (g.P.Pages.held c.args.pages.now).home) (sym c.in-Some.ensures) ∙ ap (λ (h : Option ℕ). Some h) c.page_at-page.ensures ∙ ap (λ (o : ℕ). Some (Some (c.page_at-page.result.0 * 4096 + o))) (sym c.offset_of-offset.ensures) in
+    (c.offset_of-offset.result, low, at)

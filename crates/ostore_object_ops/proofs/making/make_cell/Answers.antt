@@ -1,4 +1,5 @@
-use Rattle.std.proofs.Common.{rules, ◌+◌, ◌∙◌, ℕ, ap, sym, subst, Ok, Err, inl, inr, Some}
+use Rattle.std.proofs.Common.{rules, ◌+◌, ◌∙◌, ℕ, List, ap, sym, subst, Ok, Err, inl, inr, Some}
+use Rattle.ostore_base.specs.declared.page.PageImage.{PageImage}
 use Rattle.ostore_segments.specs.declared.objects.NewCell.{NewCell}
 use Rattle.ostore_segments.specs.declared.placement.NoSpace.{NoSpace}
 use Rattle.ostore_segments.specs.Making.{IsObjectAsked, Makes}
@@ -9,6 +10,7 @@ use Rattle.ostore_object_ops.proofs.NewFacts.{new_type, IsMade, made_within}
 use Rattle.ostore_object_ops.proofs.StepFacts.{opened_change}
 use Rattle.ostore_segments.proofs.ViewLaws.{brings_on, each_then, breaks_at}
 use Rattle.ostore_segments.proofs.NamingLaws.{made_named, back_made, same_named}
+use Rattle.ostore_segments.proofs.OwnLaws.{each_owns_none, each_owns_then}
 use Rattle.ostore_object_ops.proofs.making.make_cell.Goals as goal
 
 pub code_size-requires-clause-there : goal.code_size-requires-clause-there
@@ -87,3 +89,12 @@ returns-in_err-enter-clause-stays g c =
     (λ old new page fine makes is. back_made old new c.args.segment c.in-Ok.cell.page.0 c.code_size.result c.args.number.0 c.in-Ok.cell.serial c.in-Ok.cell.offset page fine asked.most c.requires.segment makes is)
     c.in_err-enter.ensures.stays in
     search rules
+
+pub returns-in-Err-clause-owns : goal.returns-in-Err-clause-owns
+returns-in-Err-clause-owns g c = c.in_ok-cell.ensures.owns
+
+pub returns-clause-owns : goal.returns-clause-owns
+returns-clause-owns g c =
+    let opened = opened_change (λ (cell : NewCell) old new. Makes old new c.args.segment cell.page.0 c.code_size.result c.args.number.0 cell.serial cell.offset) (λ (lack : NoSpace) old new. FindsNone old new c.args.segment (c.code_size.result + 8)) c.in_ok-cell.field-0 (Ok c.in-Ok.cell) c.in-Ok.is c.in_ok-cell.ensures.lists in
+    let after = Becomes-stands {Q = λ list. List PageImage} c.requires.allocated (λ old new fine makes. old) opened in
+    each_owns_then after c.in_ok-enter.ensures.lists (λ old new page known same was. same_named old new c.args.segment page same was) c.in_ok-cell.ensures.owns (each_owns_none c.in_ok-enter.ensures.owns)

@@ -18,6 +18,7 @@ use Rattle.ostore_object_ops.proofs.LeadFacts.{leads_kept}
 use Rattle.ostore_object_ops.proofs.NewFacts.{new_type, new_wrong, new_spent, new_done, new_lacks}
 use Rattle.ostore_object_ops.proofs.StepFacts.{Becomes-stay, looked, opened_change, homes_stay, homes_then}
 use Rattle.ostore_segments.proofs.ViewLaws.{brings_nothing, each_weaker, each_then, breaks_weaker, breaks_seen}
+use Rattle.ostore_segments.proofs.OwnLaws.{owns_nothing, each_owns_none, each_owns_weaker, each_owns_later}
 use Rattle.ostore_object_ops.proofs.making.run_new.Goals as goal
 
 pub returns-in_default-clause-lists : goal.returns-in_default-clause-lists
@@ -136,3 +137,13 @@ pub returns-in-Err-make_cell-clause-stays : goal.returns-in-Err-make_cell-clause
 returns-in-Err-make_cell-clause-stays g c =
     breaks_seen {N = Wanted c.args.segment} c.in-Ok.ensures.lists (each_weaker (λ list page is. (refl, inl is)) c.in-Ok.ensures.brings)
     (breaks_weaker {N = Wanted c.args.segment} (Stands-seen c.requires.stands c.in-Ok.ensures.lists) (λ list page known is. (refl, is)) c.in-Err-make_cell.ensures.stays)
+
+pub returns-in_default-clause-owns : goal.returns-in_default-clause-owns
+returns-in_default-clause-owns g c = each_owns_none owns_nothing
+
+pub returns-then-spent-clause-owns : goal.returns-then-spent-clause-owns
+returns-then-spent-clause-owns g c = each_owns_none c.in-Ok.ensures.owns
+
+pub returns-clause-owns : goal.returns-clause-owns
+returns-clause-owns g c =
+    each_owns_weaker {M = λ list. IsNamedIn list c.args.segment} (λ list page is. (refl, is)) (each_owns_later c.in-Ok.ensures.owns c.in-Ok-make_cell.ensures.owns)

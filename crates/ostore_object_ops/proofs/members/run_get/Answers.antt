@@ -49,3 +49,9 @@ returns-in-Err-clause-brings g c = c.in_ok-found.ensures.brings
 
 pub returns-clause-brings : goal.returns-clause-brings
 returns-clause-brings g c = c.in_ok-found.ensures.brings
+
+pub returns-in-Err-clause-owns : goal.returns-in-Err-clause-owns
+returns-in-Err-clause-owns g c = c.in_ok-found.ensures.owns
+
+pub returns-clause-owns : goal.returns-clause-owns
+returns-clause-owns g c = c.in_ok-found.ensures.owns

@@ -14,6 +14,7 @@ use Rattle.ostore_object_ops.proofs.LeadFacts.{leads_kept}
 use Rattle.ostore_object_ops.proofs.StepFacts.{opened, looked, homes_then}
 use Rattle.ostore_segments.proofs.ViewLaws.{rests_breaks, breaks_then}
 use Rattle.ostore_object_ops.proofs.ClaimFacts.{brings_none}
+use Rattle.ostore_segments.proofs.OwnLaws.{looks_own, owns_weaker, owns_later}
 use Rattle.ostore_object_ops.proofs.members.run_set_int.Goals as goal
 
 pub returns-in-Err-clause-lists : goal.returns-in-Err-clause-lists
@@ -61,7 +62,7 @@ returns-in_err-store_int-clause-fails g c =
 pub returns-clause-passes : goal.returns-clause-passes
 returns-clause-passes g c = g.met.P.Pages.passes_on _ _ _ c.in_ok-found.ensures.passes c.in_ok-store_int.ensures.passes
 
--- a member that was found is on a page in view
+-- what is known of the page of a member that was found
 in_view : (P : ℕ → Type 0) (answer : Result Found Refusal) (found : Found) → answer ≡ Ok found → IfOk answer (λ (f : Found). P f.page.0) → P found.page.0
 in_view P answer found is there = subst (λ (r : Result Found Refusal). IfOk r (λ (f : Found). P f.page.0)) is there
 
@@ -80,3 +81,12 @@ pub returns-in_err-store_int-clause-stays : goal.returns-in_err-store_int-clause
 returns-in_err-store_int-clause-stays g c =
     let failed = breaks_then c.in_ok-found.ensures.lists c.in_ok-found.ensures.brings (rests_breaks c.in_err-store_int.ensures.stays) in
     search rules
+
+pub returns-in-Err-clause-owns : goal.returns-in-Err-clause-owns
+returns-in-Err-clause-owns g c = looks_own c.in_ok-found.ensures.owns
+
+pub returns-clause-owns : goal.returns-clause-owns
+returns-clause-owns g c =
+    let named = IsObjectPage (leads_of (g.P.Pages.held c.args.pages.now) c.args.vars.now) c.args.object.now in
+    owns_later c.in_ok-found.ensures.owns
+    (owns_weaker (λ page same. subst named (sym same) (in_view named c.in_ok-found.field-0 c.in-Ok.found c.in-Ok.is c.in_ok-found.ensures.object)) c.in_ok-store_int.ensures.owns)

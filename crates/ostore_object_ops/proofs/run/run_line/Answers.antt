@@ -4,7 +4,7 @@ use Rattle.ostore_graph_model.specs.declared.commands.Command.{Command}
 use Rattle.ostore_segments.proofs.ListSteps.{Becomes-weaker, Becomes-known}
 use Rattle.ostore_object_ops.proofs.RunLaws.{item_at}
 use Rattle.ostore_object_ops.proofs.StepFacts.{no_space_map, stopped_map}
-use Rattle.ostore_object_ops.proofs.ClaimFacts.{line_sees, line_breaks, line_brings, line_wants}
+use Rattle.ostore_object_ops.proofs.ClaimFacts.{line_sees, line_breaks, line_brings, line_owns, line_wants}
 use Rattle.ostore_object_ops.proofs.run.run_line.Goals as goal
 
 pub returns-in-Err-clause-space : goal.returns-in-Err-clause-space
@@ -47,6 +47,16 @@ returns-clause-brings g c =
     subst (λ (k : ℕ). slice_get c.args.txn.now.commands k ≡ Some c.index-commands-place.result) at
     (ap (λ (l : List Command). slice_get l c.len-place.result) (sym c.items-commands.ensures) ∙ item_at c.items-commands.result.now c.len-place.result c.index-commands-place.result (omega arith) c.index-commands-place.is) in
     line_brings c.args.txn.now c.args.progress.now.replies.items c.index-commands-place.result _ there c.in-Ok.ensures.brings
+
+pub returns-clause-owns : goal.returns-clause-owns
+returns-clause-owns g c =
+    let all : length c.items-commands.result.now ≡ length c.args.txn.now.commands = ap (λ (l : List Command). length l) c.items-commands.ensures in
+    let long : c.args.progress.now.replies.len ≡ length c.args.progress.now.replies.items = omega (arith, c.args.progress.now.replies.ok.0) in
+    let at : c.len-place.result ≡ length c.args.progress.now.replies.items = c.len-place.ensures ∙ long in
+    let there : slice_get c.args.txn.now.commands (length c.args.progress.now.replies.items) ≡ Some c.index-commands-place.result =
+    subst (λ (k : ℕ). slice_get c.args.txn.now.commands k ≡ Some c.index-commands-place.result) at
+    (ap (λ (l : List Command). slice_get l c.len-place.result) (sym c.items-commands.ensures) ∙ item_at c.items-commands.result.now c.len-place.result c.index-commands-place.result (omega arith) c.index-commands-place.is) in
+    line_owns c.args.txn.now c.args.progress.now.replies.items c.index-commands-place.result _ there c.in-Ok.ensures.owns
 
 pub returns-in-Err-clause-wants : goal.returns-in-Err-clause-wants
 returns-in-Err-clause-wants g c =
