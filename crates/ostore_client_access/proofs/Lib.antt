@@ -1,9 +1,9 @@
 pub mod CellPointers
 pub mod BridgeLaws
 pub mod StoreSteps
-pub mod FullLaws
 pub mod PassLaws
 pub mod ViewLaws
+pub mod OwnLaws
 pub mod CrowdLaws
 pub mod HomeLaws
 pub mod AccessLaws

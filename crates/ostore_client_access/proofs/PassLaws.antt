@@ -1,11 +1,12 @@
 -- Calls of a client that were Ok, or failed, one after the other.
-use Rattle.std.proofs.Common.{◌≡◌, ◌<◌, ℕ, ◌+◌, ◌/◌, ◌%◌, Bool, true, false, nat_eq, List, None, inl, inr, refl, sym, ap, subst, ◌∙◌, arith}
+use Rattle.std.proofs.Common.{◌≡◌, ◌<◌, ℕ, ◌+◌, ◌/◌, ◌%◌, Bool, true, false, nat_eq, List, [], None, inl, inr, refl, sym, ap, subst, ◌∙◌, arith}
 use Rattle.std.proofs.lemmas.Bool.{and_parts, false≢true}
 use Rattle.std.specs.Prelude.{◌&&◌, Option, Some, IfSome, Result, Ok, Err, OnOk, IfErr, length}
 use Rattle.std.specs.Map.{set_value}
-use Rattle.ostore_address_space.specs.Frames.{page_in}
+use Rattle.ostore_address_space.specs.Frames.{Frames, free_frames, page_in}
+use Rattle.ostore_relocation.specs.Reserving.{pages_wanted}
 use Rattle.ostore_base.specs.declared.numbers.PageNo.{PageNo}
-use Rattle.ostore_page_service.specs.Told.{Told, SameRecords, StillServes, NoBusy, OwnedByAnother, UsedByAnother}
+use Rattle.ostore_page_service.specs.Told.{Side, Told, SameRecords, StillServes, NoBusy, OwnedByAnother, UsedByAnother}
 use Rattle.ostore_graph_model.specs.declared.commands.Script.{Script}
 use Rattle.ostore_graph_model.specs.declared.history.Entry.{Entry}
 use Rattle.ostore_client_cache.specs.declared.entries.CachedPage.{CachedPage}
@@ -15,14 +16,19 @@ use Rattle.ostore_client_core.specs.declared.fault.AttemptFault.{AttemptFault}
 use Rattle.ostore_client_core.specs.declared.fault.AttemptFault.TheVariants.{Busy, NoSpace, CacheFull, SpaceFull, Commit, OutOfMemory}
 use Rattle.ostore_client_core.specs.Clients.{ClientView, entry_of, with_pages, IsOwn}
 use Rattle.ostore_client_core.specs.Attempts.{Narrows}
-use Rattle.ostore_client_core.specs.Calls.{BringsPage, SameClient, OwnsNoMore, IsAddressOf, IsBusy, Refused}
+use Rattle.ostore_client_core.specs.Calls.{BringsPage, SameClient, OwnsNoMore, IsAddressOf, IsBusy, LacksFrames, Refused}
 use Rattle.ostore_client_core.proofs.RecordLaws.{calm_refl}
+use Rattle.ostore_client_core.proofs.RoomLaws.{lacking_full}
 use Rattle.ostore_client_access.specs.Accesses.{MeetsAnother, Passes, Fails, Causes}
-use Rattle.ostore_client_access.proofs.FullLaws.{lacks_full}
 use Rattle.ostore_client_access.specs.inside.Passing.{HasPassed, HasFailed}
-use Rattle.ostore_client_access.specs.inside.Puts.{PutsInto}
+use Rattle.ostore_client_access.specs.inside.Puts.{OwnsOne, PutsInto}
 
 -- ---- why a page didn't come, and why it isn't owned
+
+-- a page that came in found no frame, so all of them are reserved
+lacks_full : (old new : ClientView) (page : PageNo) (frames : ℕ) (mine : Side Entry) → LacksFrames old new page frames mine → free_frames new.frames.pages ≡ []
+lacks_full old new page frames mine lacks =
+    ap (λ (f : Frames). free_frames f.pages) lacks.frames_are ∙ lacking_full lacks.choice old.frames (pages_wanted old.schema page lacks.image.bytes) lacks.lacks
 
 refused_causes : (fault : AttemptFault) (old new : ClientView) (page : PageNo) (told now : Told Entry) → SameClient old new → Refused fault old new page told now → Causes false fault told now new
 refused_causes (Busy busy) old new page told now same h = (h.1.rose, h.1.told, inl (subst (OwnedByAnother told) (sym h.1.page) h.2))
@@ -130,9 +136,9 @@ owned_there (Some entry) is = (entry, refl, is)
 abbrev StoresAt : ClientView → ClientView → Option PageNo → ℕ → List ℕ → Type 0
 StoresAt y new found at bytes = IfSome found (λ p. IfSome (entry_of y p.0) (λ entry. new ≡ with_pages (set_value (nat_eq p.0) y.pages (with_bytes entry at bytes)) y))
 
-pub puts_into : (a b : Script → Type 0) (t u : Told Entry) (x y new : ClientView) (page address at moved : ℕ) (bytes : List ℕ) → moved ≡ at → Narrows a b t u x y → BringsPage x y page → is_owned (entry_of y page) ≡ true → IsAddressOf y page address → at < 4096
+pub puts_into : (a b : Script → Type 0) (t u : Told Entry) (x y new : ClientView) (page address at moved : ℕ) (bytes : List ℕ) → moved ≡ at → Narrows a b t u x y → BringsPage x y page → OwnsOne x y page → is_owned (entry_of y page) ≡ true → IsAddressOf y page address → at < 4096
     → IfSome (page_in y.frames.pages ((address + moved) / 4096)) (λ p. IfSome (entry_of y p.0) (λ entry. new ≡ with_pages (set_value (nat_eq p.0) y.pages (with_bytes entry ((address + moved) % 4096) bytes)) y)) → PutsInto a b t u x new page at bytes
-puts_into a b t u x y new page address at moved bytes same narrows brings owned is low stores =
+puts_into a b t u x y new page address at moved bytes same narrows brings owns owned is low stores =
     let found = owned_there (entry_of y page) owned in
     let first = is.first in
     let frame : (address + moved) / 4096 ≡ address / 4096 = omega arith in
@@ -141,6 +147,7 @@ puts_into a b t u x y new page address at moved bytes same narrows brings owned 
       owned = y;
       narrows = narrows;
       brings = brings;
+      owns = owns;
       entry = found.0;
       there = found.1;
       owner = found.2;

@@ -96,6 +96,7 @@ same_rests a b t x runs own = record {
     homes = λ pointer stored is. is;
   };
   views = λ page view. view;
+  owns = λ page owned. owned;
 }
 
 pub rests : (a b : Script → Type 0) (t u : Told Entry) (x y : ClientView) → Attempts a t x → IsOwn b u y → AreAsBefore t u x y → Rests (access_held a t x) (access_held b u y)

@@ -38,11 +38,12 @@ access_told updates told client behind = record {
 }
 
 -- The lists are those on which the attempt may have begun, each with what the attempt has made of it. Pages in use are
--- in view, and a resident pointer stands for the page in its frame.
+-- in view, those that the attempt owns are owned, and a resident pointer stands for the page in its frame.
 abbrev pub access_held : (Script → Type 0) → Told Entry → ClientView → PagesHeld
 access_held serves told client = record {
   may_be = MayBe serves told client;
   in_view = InView client;
+  owned = λ page. is_owned (entry_of client page) ≡ true;
   home = home_of client;
 }
 

@@ -9,7 +9,7 @@ ghost use Rattle.ostore_client_core.specs.Calls.{SameClient};
 ghost use Rattle.ostore_object_ops.specs.Progresses.{replies_of, bound_in};
 ghost use Rattle.ostore_object_ops.specs.Suits.{IsOfInts, IsBuilt};
 ghost use Rattle.ostore_object_ops.specs.Stops.{Stopped, IfNoSpace};
-ghost use Rattle.ostore_object_ops.specs.Claiming.{BringsUsed, BringsWanted};
+ghost use Rattle.ostore_object_ops.specs.Claiming.{BringsUsed, OwnsWritten, BringsWanted};
 ghost use Rattle.ostore_client_access.specs.Accesses.{access_held, Passes, Fails, Stays};
 ghost use Rattle.ostore_client_access.specs.Attempts.{HasRunLines, AddsReply, FindsNoPlace, FoundNoPlace, LacksOnEach, IfCacheFull, CrowdsOnEach, HasMade};
 
@@ -72,6 +72,11 @@ pub(crate) fn execute_line_on<M: Mapper, S: PageService<GraphKind>>(
         access.old.client.now)
         (access_held (S.serves access.new.service.now) (S.tells access.new.service.now)
         access.new.client.now)) }
+    ensures owns { OnOk result (OwnsWritten txn.now progress.old
+        (access_held (S.serves access.old.service.now) (S.tells access.old.service.now)
+        access.old.client.now)
+        (access_held (S.serves access.new.service.now) (S.tells access.new.service.now)
+        access.new.client.now)) }
     ensures wants { IfErr result (λ stop. Stopped stop (λ fault. Stays fault
         → BringsWanted txn.now progress.old
         (access_held (S.serves access.old.service.now) (S.tells access.old.service.now)
@@ -89,8 +94,8 @@ pub(crate) fn execute_line_on<M: Mapper, S: PageService<GraphKind>>(
 /// update's line finds no place, before the call and behind it, and only where fewer pages were free than the
 /// transaction may take. CacheFull comes only where the cache may have fewer pages than 2, the data pages and those
 /// that the transaction may take, together. A line that was executed brings into use only the pages that its command
-/// uses, and one that a full cache stopped only those that the command wanted. Where it stops, the replies stay, and
-/// the attempt is to be aborted.
+/// uses, and owns only those that it writes: `get` none, `set` the object's page. One that a full cache stopped brings
+/// into use only those that the command wanted. Where it stops, the replies stay, and the attempt is to be aborted.
 pub fn execute_line<M: Mapper, S: PageService<GraphKind>>(
     client: &mut Client<'_, M>,
     service: &mut S,
@@ -129,6 +134,9 @@ pub fn execute_line<M: Mapper, S: PageService<GraphKind>>(
     ensures found { IfErr result (IfNoSpace (FoundNoPlace (S.serves service.old)
         (S.tells service.old) client.old txn.now (replies_of progress.old))) }
     ensures brings { OnOk result (BringsUsed txn.now progress.old
+        (access_held (S.serves service.old) (S.tells service.old) client.old)
+        (access_held (S.serves service.new) (S.tells service.new) client.new)) }
+    ensures owns { OnOk result (OwnsWritten txn.now progress.old
         (access_held (S.serves service.old) (S.tells service.old) client.old)
         (access_held (S.serves service.new) (S.tells service.new) client.new)) }
     ensures wants { IfErr result (λ stop. Stopped stop (λ fault. Stays fault

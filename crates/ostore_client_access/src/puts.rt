@@ -5,16 +5,16 @@ ghost use Rattle.ostore_base.specs.declared.page.TheConstants.{PAGE_SIZE};
 ghost use Rattle.ostore_client_cache.specs.Entries.{is_owned};
 ghost use Rattle.ostore_client_core.specs.Clients.{entry_of, is_page_used};
 ghost use Rattle.ostore_client_core.specs.Attempts.{Attempts, Narrows};
-ghost use Rattle.ostore_client_core.specs.Calls.{BringsPage, SameClient, IsAddressOf};
+ghost use Rattle.ostore_client_core.specs.Calls.{BringsPage, OwnsNoMore, SameClient, IsAddressOf};
 ghost use Rattle.ostore_client_access.specs.Accesses.{Passes, Fails, Stays};
-ghost use Rattle.ostore_client_access.specs.inside.Puts.{AreAsBefore, PutsInto};
+ghost use Rattle.ostore_client_access.specs.inside.Puts.{AreAsBefore, OwnsOne, PutsInto};
 
 use ostore_address_space::Mapper;
 use ostore_base::PageNo;
 use ostore_client_core::{AttemptFault, Client, GraphKind};
 use ostore_page_service::{PageClaims, PageService};
 
-/// Brings a page into use, and answers its frame's first address.
+/// Brings a page into use, and answers its frame's first address. It owns none.
 pub(crate) fn enter_page<M: Mapper, S: PageService<GraphKind>>(
     client: &mut Client<'_, M>,
     service: &mut S,
@@ -26,6 +26,7 @@ pub(crate) fn enter_page<M: Mapper, S: PageService<GraphKind>>(
         (S.tells service.old) (S.tells service.new) client.old client.new) }
     ensures used { OnOk result (is_page_used client.new page.0) }
     ensures brings { OnOk result (BringsPage client.old client.new page.0) }
+    ensures owns { OnOk result (OwnsNoMore client.old client.new) }
     ensures address { IfOk result (IsAddressOf client.new page.0) }
     ensures passes { OnOk result (Passes false (S.serves service.old) (S.serves service.new)
         (S.tells service.old) (S.tells service.new) client.old client.new) }
@@ -39,7 +40,8 @@ pub(crate) fn enter_page<M: Mapper, S: PageService<GraphKind>>(
     client.enter(service, page)
 }
 
-/// Brings a page into use, makes the attempt its owner, and answers its frame's first address.
+/// Brings a page into use, makes the attempt its owner and that of no other page, and answers its frame's first
+/// address.
 pub(crate) fn own_page<M: Mapper, S: PageService<GraphKind>>(
     client: &mut Client<'_, M>,
     service: &mut S,
@@ -52,6 +54,7 @@ pub(crate) fn own_page<M: Mapper, S: PageService<GraphKind>>(
         (S.tells service.old) (S.tells service.new) client.old client.new) }
     ensures owned { OnOk result (is_owned (entry_of client.new page.0) ≡ true) }
     ensures brings { OnOk result (BringsPage client.old client.new page.0) }
+    ensures owns { OnOk result (OwnsOne client.old client.new page.0) }
     ensures address { IfOk result (IsAddressOf client.new page.0) }
     ensures passes { OnOk result (Passes true (S.serves service.old) (S.serves service.new)
         (S.tells service.old) (S.tells service.new) client.old client.new) }

@@ -1,6 +1,6 @@
 //! Commands on the pages of a server in one thread.
 
-ghost use Rattle.std.specs.Prelude.{◌≡◌, ◌≤◌, ℕ, true, false, [], length, IfOk, Some};
+ghost use Rattle.std.specs.Prelude.{◌≡◌, ℕ, true, false, [], length, IfOk, Some};
 ghost use Rattle.std.specs.List.{AllByRecursion};
 ghost use Rattle.ostore_schema_layout.specs.Lawful.{IsLawful};
 ghost use Rattle.ostore_schema_layout.specs.Spells.{Spells};

@@ -1,6 +1,6 @@
 -- A cache or frames that are full, and one more page: together they are pages of the database, and no two of them the same.
 use Rattle.std.proofs.Common.{◌≡◌, ◌≢◌, ◌⊎◌, ℕ, zero, suc, ◌-◌, ◌<◌, Bool, true, false, cond, eqb, nat_eq, List, [], ◌∷◌, length, map, get_or, set, Option, Some, None, refl, sym, ap, subst, ◌∙◌, arith, inl, inr}
-use Rattle.std.specs.Prelude.{IsSome, is_some, nat_lt}
+use Rattle.std.specs.Prelude.{⊤, IsSome, is_some, nat_lt}
 use Rattle.std.specs.List.{AllByRecursion, AllPairs, Contains, IsDistinct, list_any}
 use Rattle.std.specs.Map.{lookup, keys_of}
 use Rattle.std.specs.Cmp.{nat_eq_equiv}
@@ -241,6 +241,14 @@ finds P choice frames (page ∷ pages) all lacks =
     finds_as P (is_some (frame_of next.pages page.0)) (reserve_all choice next pages) (reserving next false) (λ l. finds P choice next pages all.1 l)
     (λ is. let none = (some_or (frame_of next.pages page.0) false is).0 refl in record { page = page; is = all.0; nowhere = none; full = (leaves choice frames page).lacks none })
     lacks
+
+any : (pages : List PageNo) → AllByRecursion (λ (p : PageNo). ⊤) pages
+any [] = tt
+any (page ∷ pages) = (tt, any pages)
+
+-- where one finds no frame, none is free
+pub lacking_full : (choice : ℕ → ℕ → ℕ → ℕ) (frames : Frames) (pages : List PageNo) → (reserve_all choice frames pages).all ≡ false → free_frames (reserve_all choice frames pages).frames.pages ≡ []
+lacking_full choice frames pages lacks = (finds (λ (p : PageNo). ⊤) choice frames pages (any pages) lacks).full
 
 -- where one finds no frame, the frames are fewer than the pages of the database
 pub lacking_below : (choice : ℕ → ℕ → ℕ → ℕ) (frames : Frames) (pages : List PageNo) (count : ℕ) → AreKnown count frames.pages → AllByRecursion (λ (p : PageNo). p.0 < count) pages

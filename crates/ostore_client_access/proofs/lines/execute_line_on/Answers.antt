@@ -51,3 +51,6 @@ returns-clause-brings g c = c.run_line-done.ensures.brings
 
 pub returns-clause-wants : goal.returns-clause-wants
 returns-clause-wants g c = c.run_line-done.ensures.wants
+
+pub returns-clause-owns : goal.returns-clause-owns
+returns-clause-owns g c = c.run_line-done.ensures.owns

@@ -4,6 +4,7 @@ use Rattle.ostore_client_access.specs.inside.Passing.{passes_then, fails_then}
 use Rattle.ostore_client_access.proofs.PassLaws.{narrows_then, passes_any, fails_any, own_fails}
 use Rattle.ostore_client_access.proofs.ViewLaws.{brings_owned, own_moves}
 use Rattle.ostore_address_space.specs.Frames.{page_in}
+use Rattle.ostore_client_access.proofs.OwnLaws.{owns_owned}
 use Rattle.ostore_client_access.proofs.puts.own_page.Goals as goal
 
 pub returns-in-Ok-own-clause-narrows : goal.returns-in-Ok-own-clause-narrows
@@ -29,3 +30,6 @@ returns-in-Ok-own-clause-brings g c = brings_owned c.args.client.now c.enter_pag
 
 pub returns-in-Err-own-clause-stays : goal.returns-in-Err-own-clause-stays
 returns-in-Err-own-clause-stays g c = λ stays. absurd (own_moves c.in-Err-own.fault (g.S.PageClaims.tells c.enter_page.new.service) (g.S.PageClaims.tells c.own.new.service) c.enter_page.new.client c.own.new.self c.args.page (page_in c.enter_page.new.client.frames.pages (c.in-Ok.address / 4096)) c.in-Ok.ensures.address.leads c.in-Err-own.ensures.refused stays)
+
+pub returns-in-Ok-own-clause-owns : goal.returns-in-Ok-own-clause-owns
+returns-in-Ok-own-clause-owns g c = owns_owned c.args.client.now c.enter_page.new.client c.own.new.self c.args.page (page_in c.enter_page.new.client.frames.pages (c.in-Ok.address / 4096)) c.in-Ok.ensures.address.leads c.in-Ok.ensures.owns c.in-Ok-own.ensures.owned

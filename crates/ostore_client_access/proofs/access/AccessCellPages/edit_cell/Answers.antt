@@ -5,6 +5,8 @@ use Rattle.ostore_client_access.proofs.AccessLaws.{stands_runs, stands_range, be
 use Rattle.ostore_client_access.proofs.EditLaws.{in_cell, ok_map, some_bytes}
 use Rattle.ostore_client_access.proofs.PassLaws.{holder_updates, holder_writes, holder_passed, holder_failed}
 use Rattle.ostore_client_access.proofs.ViewLaws.{puts_view, holder_rests, brings_none}
+use Rattle.ostore_segments.proofs.OwnLaws.{owns_nothing}
+use Rattle.ostore_client_access.proofs.OwnLaws.{puts_owns}
 use Rattle.ostore_client_access.proofs.access.AccessCellPages.edit_cell.Goals as goal
 
 pub returns-then-is_empty-clause-lists : goal.returns-then-is_empty-clause-lists
@@ -51,3 +53,9 @@ returns-clause-brings g c = ok_map _ _ c.put.result (puts_view (g.S.PageClaims.s
 
 pub returns-clause-stays : goal.returns-clause-stays
 returns-clause-stays g c = holder_rests true (g.S.PageClaims.serves c.args.self.now.service.now) (g.S.PageClaims.serves c.put.new.service) (g.S.PageClaims.tells c.args.self.now.service.now) (g.S.PageClaims.tells c.put.new.service) c.args.self.now.client.now c.put.new.client c.put.result (stands_runs _ _ _ c.requires.there) c.put.ensures.fails c.put.ensures.stays
+
+pub returns-then-is_empty-clause-owns : goal.returns-then-is_empty-clause-owns
+returns-then-is_empty-clause-owns g c = owns_nothing
+
+pub returns-clause-owns : goal.returns-clause-owns
+returns-clause-owns g c = ok_map _ _ c.put.result (puts_owns (g.S.PageClaims.serves c.args.self.now.service.now) (g.S.PageClaims.serves c.put.new.service) (g.S.PageClaims.tells c.args.self.now.service.now) (g.S.PageClaims.tells c.put.new.service) c.args.self.now.client.now c.put.new.client c.args.page.0 (c.args.offset + c.args.at) c.args.bytes.now) c.put.ensures.puts

@@ -5,6 +5,7 @@ use Rattle.ostore_client_access.proofs.RootWrites.{rooted}
 use Rattle.ostore_client_access.proofs.PassLaws.{holder_updates, holder_writes, holder_passed, holder_failed}
 use Rattle.ostore_page_tags.specs.declared.layout.TheConstants.{ROOTS_PAGE}
 use Rattle.ostore_client_access.proofs.ViewLaws.{puts_view, holder_rests}
+use Rattle.ostore_client_access.proofs.OwnLaws.{puts_owns}
 use Rattle.ostore_client_access.proofs.access.AccessPages.edit_root.Goals as goal
 
 pub returns-clause-lists : goal.returns-clause-lists
@@ -27,3 +28,6 @@ returns-clause-brings g c = ok_map _ _ c.put.result (puts_view (g.S.PageClaims.s
 
 pub returns-clause-stays : goal.returns-clause-stays
 returns-clause-stays g c = holder_rests true (g.S.PageClaims.serves c.args.self.now.service.now) (g.S.PageClaims.serves c.put.new.service) (g.S.PageClaims.tells c.args.self.now.service.now) (g.S.PageClaims.tells c.put.new.service) c.args.self.now.client.now c.put.new.client c.put.result (stands_runs _ _ _ c.requires.some) c.put.ensures.fails c.put.ensures.stays
+
+pub returns-clause-owns : goal.returns-clause-owns
+returns-clause-owns g c = ok_map _ _ c.put.result (puts_owns (g.S.PageClaims.serves c.args.self.now.service.now) (g.S.PageClaims.serves c.put.new.service) (g.S.PageClaims.tells c.args.self.now.service.now) (g.S.PageClaims.tells c.put.new.service) c.args.self.now.client.now c.put.new.client ROOTS_PAGE _ _) c.put.ensures.puts

@@ -2,6 +2,7 @@ use Rattle.ostore_client_access.proofs.AccessLaws.{stands_runs, stands_range, be
 use Rattle.std.proofs.Common.{refl}
 use Rattle.ostore_client_access.proofs.PassLaws.{passes_any, fails_any}
 use Rattle.ostore_client_access.proofs.ViewLaws.{brings_view, rests}
+use Rattle.ostore_client_access.proofs.OwnLaws.{enters_owns}
 use Rattle.ostore_client_access.proofs.access.AccessPages.enter.Goals as goal
 
 pub enter_page-requires-clause-known : goal.enter_page-requires-clause-known
@@ -23,3 +24,6 @@ returns-in-Ok-clause-brings g c = brings_view (g.S.PageClaims.serves c.args.self
 
 pub returns-in-Err-clause-stays : goal.returns-in-Err-clause-stays
 returns-in-Err-clause-stays g c = λ stays. rests (g.S.PageClaims.serves c.args.self.now.service.now) (g.S.PageClaims.serves c.enter_page.new.service) (g.S.PageClaims.tells c.args.self.now.service.now) (g.S.PageClaims.tells c.enter_page.new.service) c.args.self.now.client.now c.enter_page.new.client (stands_runs _ _ _ c.requires) c.in-Err.ensures.fails.own (c.in-Err.ensures.stays stays)
+
+pub returns-in-Ok-clause-owns : goal.returns-in-Ok-clause-owns
+returns-in-Ok-clause-owns g c = enters_owns (g.S.PageClaims.serves c.args.self.now.service.now) (g.S.PageClaims.serves c.enter_page.new.service) (g.S.PageClaims.tells c.args.self.now.service.now) (g.S.PageClaims.tells c.enter_page.new.service) c.args.self.now.client.now c.enter_page.new.client c.in-Ok.ensures.owns
