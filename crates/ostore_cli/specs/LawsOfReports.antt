@@ -1,4 +1,4 @@
--- What the promise says of a report is all of it.
+-- Where no transaction was given up, the promise allows one report alone.
 use Rattle.std.specs.Prelude.{◌≡◌, ℕ, false, List}
 use Rattle.ostore_cli.specs.Promise.{IsReportOf}
 

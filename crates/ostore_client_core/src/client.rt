@@ -1,7 +1,7 @@
 //! A client.
 
-ghost use Rattle.std.specs.Prelude.{◌≡◌, ◌<◌, ◌≤◌, ◌+◌, ◌%◌, ℕ, [], true, false, nat_eq, length, replicate, None, Some, IfOk, OnOk, IsSome, option_copied};
-ghost use Rattle.ostore_base.specs.Limits.{most_clients, most_pages};
+ghost use Rattle.std.specs.Prelude.{◌≡◌, ◌<◌, ◌≤◌, ℕ, [], true, replicate, None, IfOk, OnOk};
+ghost use Rattle.ostore_base.specs.Limits.{most_pages};
 ghost use Rattle.ostore_schema_layout.specs.Lawful.{IsLawful};
 ghost use Rattle.ostore_address_space.specs.Frames.{most_frames, frames_of};
 ghost use Rattle.ostore_page_service.specs.Told.{SameRecords, StillServes, NoBusy};

@@ -1,6 +1,6 @@
 //! What becomes of a client's pages when its attempt ends.
 
-ghost use Rattle.std.specs.Prelude.{◌≡◌, ◌<◌, ◌≤◌, ℕ, true, false, length, nat_eq, IsTrue, IsSome, All, List};
+ghost use Rattle.std.specs.Prelude.{◌≡◌, ◌<◌, ◌≤◌, ℕ, true, false, length, nat_eq, IsTrue, IsSome, All};
 ghost use Rattle.std.specs.List.{AllPairs, Contains};
 ghost use Rattle.std.specs.Map.{lookup};
 ghost use Rattle.ostore_base.specs.declared.page.PageImage.{PageImage};

@@ -1,14 +1,12 @@
 //! Jobs that are run by turns on the pages of a fresh database.
 
-ghost use Rattle.std.specs.Prelude.{◌≡◌, ◌≤◌, ◌↔◌, ℕ, IfOk, IsTrue};
+ghost use Rattle.std.specs.Prelude.{◌≡◌, ◌↔◌, ℕ, IfOk, IsTrue};
 ghost use Rattle.std.specs.List.{AllByRecursion};
-ghost use Rattle.ostore_base.specs.Limits.{least_pages, most_pages};
 ghost use Rattle.ostore_schema_layout.specs.Spells.{Spells};
 ghost use Rattle.ostore_graph_model.specs.declared.commands.Script.{Script};
 ghost use Rattle.ostore_page_service.specs.Holding.{IsEmpty};
 ghost use Rattle.ostore_page_service.specs.Servers.{first_of, journal_of, side_of, Serves};
 ghost use Rattle.ostore_object_ops.specs.Suits.{IsBuilt};
-ghost use Rattle.ostore_client_turns.specs.Runs.{AreBuilt};
 
 use super::*;
 use ostore_address_space::{High, Low, Mapper, Mixed};

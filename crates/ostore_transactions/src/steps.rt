@@ -1,6 +1,6 @@
 //! The kinds of line of a transaction.
 
-ghost use Rattle.std.specs.Prelude.{◌≡◌, ◌+◌, ◌<◌, ◌≤◌, true, false, length, Some, None, IfOk, IfErr, OnOk, OnErr};
+ghost use Rattle.std.specs.Prelude.{◌≡◌, ◌+◌, ◌<◌, ◌≤◌, true, false, length, Some, None, IfOk, IfErr, OnOk};
 ghost use Rattle.std.specs.List.{AllByRecursion};
 ghost use Rattle.ostore_schema_layout.specs.Lawful.{IsLawful};
 ghost use Rattle.ostore_client_core.specs.declared.release.Ending.TheVariants.{Aborted};

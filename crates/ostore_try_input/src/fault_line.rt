@@ -1,6 +1,6 @@
 //! The line that names what is wrong with a text.
 
-ghost use Rattle.std.specs.Prelude.{◌≡◌, codes, IfOk};
+ghost use Rattle.std.specs.Prelude.{◌≡◌, IfOk};
 ghost use Rattle.ostore_try_input.specs.FaultLine.{fault_at_place, fault_line, job_fault_line, refusal_line};
 
 use crate::reading::TryFault;

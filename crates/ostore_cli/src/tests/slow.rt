@@ -1,6 +1,6 @@
 //! A source that gives one byte at a time, and a sink that takes one.
 
-ghost use Rattle.std.specs.Prelude.{◌≡◌, Some};
+ghost use Rattle.std.specs.Prelude.{Some};
 
 use ostore_base::{Failed, MemSink, MemSource, Sink, Source};
 use std::alloc::Global;

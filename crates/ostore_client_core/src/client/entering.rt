@@ -1,6 +1,6 @@
 //! Bringing pages into use.
 
-ghost use Rattle.std.specs.Prelude.{◌≡◌, ◌<◌, ◌*◌, ℕ, true, false, length, None, Some, Err, IfOk, IfErr, OnOk, OnErr, IsSome};
+ghost use Rattle.std.specs.Prelude.{◌≡◌, ◌<◌, ◌*◌, true, length, None, Some, Err, IfOk, IfErr, OnOk, IsSome};
 ghost use Rattle.ostore_base.specs.Limits.{most_pages};
 ghost use Rattle.ostore_address_space.specs.Frames.{frame_of};
 ghost use Rattle.ostore_page_service.specs.Told.{SameRecords, StillServes, NoBusy};

@@ -1,6 +1,6 @@
 //! Committing an attempt.
 
-ghost use Rattle.std.specs.Prelude.{◌≡◌, ◌≢◌, ◌<◌, ◌≤◌, ℕ, true, false, length, IfOk, IfErr, OnOk, OnErr};
+ghost use Rattle.std.specs.Prelude.{◌≡◌, ◌<◌, ◌≤◌, ℕ, true, false, length, IfOk, IfErr, OnOk, OnErr};
 ghost use Rattle.ostore_page_service.specs.Told.{StillServes};
 ghost use Rattle.ostore_client_core.specs.declared.release.Ending.TheVariants.{Committed};
 ghost use Rattle.ostore_client_cache.specs.Entries.{is_in_use};

@@ -1,6 +1,6 @@
 //! Reading and owning pages in use.
 
-ghost use Rattle.std.specs.Prelude.{◌≡◌, ◌≤◌, ◌<◌, ◌+◌, ◌%◌, true, length, OnOk, IfErr, IsSome, option_copied};
+ghost use Rattle.std.specs.Prelude.{◌≡◌, ◌≤◌, ◌<◌, ◌+◌, ◌%◌, true, OnOk, IfErr, option_copied};
 ghost use Rattle.ostore_base.specs.declared.page.TheConstants.{PAGE_SIZE};
 ghost use Rattle.ostore_page_service.specs.Told.{SameRecords, StillServes, NoBusy, Touches};
 ghost use Rattle.ostore_client_cache.specs.Entries.{used_image};

@@ -1,6 +1,6 @@
 //! What calls of a client do to its pages, one by one.
 
-ghost use Rattle.std.specs.Prelude.{◌≡◌, ◌≤◌, ◌<◌, ◌∷◌, ℕ, true, false, nat_eq, length, None, Some, IsSome, IfErr, OnOk, OnErr};
+ghost use Rattle.std.specs.Prelude.{◌≡◌, ◌≤◌, ◌<◌, ◌∷◌, true, false, nat_eq, length, None, Some, IsSome, IfErr, OnOk, OnErr};
 ghost use Rattle.std.specs.List.{IsDistinct};
 ghost use Rattle.std.specs.Map.{remove_entry, keys_of};
 ghost use Rattle.ostore_base.specs.Limits.{most_pages};
@@ -10,7 +10,7 @@ ghost use Rattle.ostore_client_cache.specs.declared.entries.Hold.TheVariants.{Re
 ghost use Rattle.ostore_client_cache.specs.Entries.{first_as, hold_of, is_in_use};
 ghost use Rattle.ostore_client_cache.specs.Caches.{fresh, surplus, used_pages};
 ghost use Rattle.ostore_client_core.specs.Clients.{entry_of, with_pages};
-ghost use Rattle.ostore_client_core.specs.Calls.{trimmed, one_more, Drops, FindsNoFrame, IsFitPage, Settles};
+ghost use Rattle.ostore_client_core.specs.Calls.{trimmed, Drops, FindsNoFrame, IsFitPage, Settles};
 
 use crate::client::Client;
 use crate::kind::GraphKind;
